@@ -1,5 +1,6 @@
 -- Runs of a program, step by step, and when two runs look the same from outside.
-use Rattle.std.specs.Prelude.{◌≡◌, ℕ, zero, suc, ◌+◌, ◌<◌, ◌≤◌, List, length, slice_index}
+use Rattle.std.specs.Prelude.{◌≡◌, ℕ, zero, suc, ◌+◌, ◌<◌, ◌≤◌, List, ◌++◌, length, slice_index, Option, IfSome}
+use Rattle.std.specs.Option.{option_map}
 
 -- What the world sees of a run: what is left of the input, and what was written to the output and as error text.
 pub record Streams : Type 0 where
@@ -38,3 +39,17 @@ pub record KeepsStep {State Cause State' Cause' : Type 0} (first : ℕ → Run S
   pub count : length moments ≡ n + 1
   pub rising : (i : ℕ) → i < n → slice_index moments i < slice_index moments (i + 1)
   pub same : (i : ℕ) → i ≤ n → Same (first i) (second (slice_index moments i))
+
+-- What a source has left, where it tells it, and what the sinks for output and error text hold, where they tell it.
+pub record Outside : Type 0 where
+  pub rest : Option (List ℕ)
+  pub output : Option (List ℕ)
+  pub error : Option (List ℕ)
+
+-- A run on the input `given` passes to the outside: the input is what the source had, what is left is what it
+-- has now, and to what the sinks held is added what the run has written.
+pub record Passes (given : List ℕ) (streams : Streams) (old new : Outside) : Type 0 where
+  pub taken : IfSome old.rest (λ rest. rest ≡ given)
+  pub left : IfSome new.rest (λ rest. rest ≡ streams.input)
+  pub output : new.output ≡ option_map (λ bytes. bytes ++ streams.output) old.output
+  pub error : new.error ≡ option_map (λ bytes. bytes ++ streams.error) old.error
