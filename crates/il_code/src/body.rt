@@ -1,6 +1,5 @@
-use num_core::List;
-
 use crate::opcode::Op;
+use num_core::List;
 
 /// A method body (ECMA-335 II.25.4).
 #[derive(Debug, Drop)]
