@@ -3,8 +3,10 @@
 
 mod body;
 mod opcode;
+mod operation;
 mod read;
 
 pub use body::{Body, Clause, ClauseKind, Instr, Operand};
 pub use opcode::{OPCODES, Op, OperandForm};
+pub use operation::Operation;
 pub use read::{BodyFault, instruction_at, tiny_code};
