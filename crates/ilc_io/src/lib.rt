@@ -4,7 +4,9 @@
 mod fault;
 mod files;
 mod stream;
+mod whole;
 
 pub use fault::{Failed, FileFault, IoFault};
 pub use files::Files;
 pub use stream::{Sink, Source};
+pub use whole::{read_file, write_file};
