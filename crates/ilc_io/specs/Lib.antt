@@ -2,3 +2,4 @@ pub mod Count
 pub mod Store
 pub mod Piece
 pub mod Fault
+pub mod Calls

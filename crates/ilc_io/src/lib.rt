@@ -1,11 +1,13 @@
 //! The outside: files, what is read and what is written.
 #![tactic(auto)]
 
+mod call;
 mod fault;
 mod files;
 mod stream;
 mod whole;
 
+pub use call::Call;
 pub use fault::{Failed, FileFault, IoFault};
 pub use files::Files;
 pub use stream::{Sink, Source};
