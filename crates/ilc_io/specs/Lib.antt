@@ -3,3 +3,4 @@ pub mod Store
 pub mod Piece
 pub mod Fault
 pub mod Calls
+pub mod Mem

@@ -4,6 +4,7 @@
 mod call;
 mod fault;
 mod files;
+mod mem_files;
 mod stream;
 mod whole;
 
