@@ -1,9 +1,10 @@
 -- What the stores, sources and sinks in memory are.
-use Rattle.std.specs.Prelude.{ℕ, List, map, String}
+use Rattle.std.specs.Prelude.{ℕ, ◌+◌, ◌-◌, ◌^◌, min, List, [], ◌∷◌, ◌++◌, length, Contains, map, String, refl}
+use Rattle.std.specs.Coded.{Coded, code_by, coded×, coded_ℕ, coded_list, coded_option}
 use Rattle.std.specs.Global.{Global}
 use Rattle.std.specs.String.{string_bytes}
 use Rattle.std.specs.BTreeMap.{BTreeMap}
-use Rattle.std.specs.FinMap.{from_entries}
+use Rattle.std.specs.FinMap.{from_entries, code as files_code}
 use Rattle.ilc_io.specs.declared.call.Call.{Call}
 use Rattle.ilc_io.specs.Store.{Store, Asked}
 
@@ -20,3 +21,28 @@ pub record MemStore : Type 0 where
   pub failing : List ℕ
   pub read_faults : ℕ
   pub write_faults : ℕ
+
+-- the number of the next call is among those that are to fail
+abbrev pub NextFails : MemStore → Type 0
+NextFails store = Contains store.failing (length store.calls)
+
+-- the store after one more call
+abbrev pub with_call : Call → MemStore → MemStore
+with_call call store = record store { calls = store.calls ++ call ∷ [] }
+
+-- the store after one more failed call of `size` or `read`, of which the count stays at its last value
+abbrev pub with_read_fault : MemStore → MemStore
+with_read_fault store = record store { read_faults = min (store.read_faults + 1) (2 ^ 64 - 1) }
+
+-- the same of `create` or `append`
+abbrev pub with_write_fault : MemStore → MemStore
+with_write_fault store = record store { write_faults = min (store.write_faults + 1) (2 ^ 64 - 1) }
+
+-- a store in memory is stored as its parts
+abbrev pub mem_store_code : Coded Call → Coded MemStore
+mem_store_code coded_call =
+    code_by (Store × (Asked × (List Call × (List ℕ × (ℕ × ℕ)))))
+    (coded× (files_code (coded_list coded_ℕ) (coded_list coded_ℕ)) (coded× (coded_list (coded× (coded_list coded_ℕ) (coded_option coded_ℕ))) (coded× (coded_list coded_call) (coded× (coded_list coded_ℕ) (coded× coded_ℕ coded_ℕ)))))
+    (λ s. (s.files, (s.asked, (s.calls, (s.failing, (s.read_faults, s.write_faults))))))
+    (λ p. record { files = p.0; asked = p.1.0; calls = p.1.1.0; failing = p.1.1.1.0; read_faults = p.1.1.1.1.0; write_faults = p.1.1.1.1.1 })
+    (λ _. refl)

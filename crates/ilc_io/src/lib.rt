@@ -5,11 +5,13 @@ mod call;
 mod fault;
 mod files;
 mod mem_files;
+mod fill;
 mod stream;
 mod whole;
 
 pub use call::Call;
 pub use fault::{Failed, FileFault, IoFault};
 pub use files::Files;
+pub use mem_files::MemFiles;
 pub use stream::{Sink, Source};
 pub use whole::{read_file, write_file};
