@@ -38,6 +38,26 @@ with_read_fault store = record store { read_faults = min (store.read_faults + 1)
 abbrev pub with_write_fault : MemStore → MemStore
 with_write_fault store = record store { write_faults = min (store.write_faults + 1) (2 ^ 64 - 1) }
 
+-- A source or a sink in memory: the bytes that are left or were written, how many calls came, the numbers of the
+-- calls that are to fail, and how many have failed. The counts stay at their last value.
+pub record MemStream : Type 0 where
+  pub bytes : List ℕ
+  pub calls : ℕ
+  pub failing : List ℕ
+  pub faults : ℕ
+
+-- the number of the next call is among those that are to fail
+abbrev pub NextOfStreamFails : MemStream → Type 0
+NextOfStreamFails stream = Contains stream.failing stream.calls
+
+-- the stream after one more call, which leaves these bytes
+abbrev pub with_bytes : List ℕ → MemStream → MemStream
+with_bytes bytes stream = record stream { bytes = bytes; calls = min (stream.calls + 1) (2 ^ 64 - 1) }
+
+-- the stream after one more call, which failed
+abbrev pub with_fault : MemStream → MemStream
+with_fault stream = record stream { calls = min (stream.calls + 1) (2 ^ 64 - 1); faults = min (stream.faults + 1) (2 ^ 64 - 1) }
+
 -- a store in memory is stored as its parts
 abbrev pub mem_store_code : Coded Call → Coded MemStore
 mem_store_code coded_call =

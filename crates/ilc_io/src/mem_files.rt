@@ -1,10 +1,9 @@
 ghost use Rattle.std.specs.Prelude.{◌≡◌, ◌⊎◌, ◌+◌, ◌-◌, ◌^◌, ◌≤◌, ◌↔◌, [], ◌∷◌, ◌++◌, length, min, Contains, drop, IsTrue, IfOk, OnOk, OnErr, IsErrOf, Some};
 ghost use Rattle.std.specs.Option.{option_copied};
 ghost use Rattle.std.specs.FinMap as map;
-ghost use Rattle.ilc_io.specs.Calls.{noted};
-ghost use Rattle.ilc_io.specs.Count.{HasRisen};
 ghost use Rattle.ilc_io.specs.Mem.{files_of, NextFails, with_call, with_read_fault, with_write_fault};
-ghost use Rattle.ilc_io.specs.Store.{Store, size_of, stored, appended};
+ghost use Rattle.ilc_io.specs.Piece.{Reads};
+ghost use Rattle.ilc_io.specs.Store.{content, size_of, stored, appended};
 
 use crate::call::Call;
 use crate::fault::IoFault;
@@ -128,12 +127,12 @@ impl Files for MemFiles {
 
     fn size(&mut self, name: &Text) -> Result<Option<u64>, IoFault>
         ensures exact { IfOk result (λ answer. answer ≡ size_of self.old.files name.now) }
+        ensures after_ok { IfOk result (λ answer. self.new ≡ record (with_call Call.Size self.old) { asked = self.old.asked ++ (name.now, answer) ∷ [] }) }
         ensures read_faults_kept { self.old.read_faults ≤ self.new.read_faults }
 
         // The call fails exactly where its number is in the list.
         ensures to_fail { result ≡ Err IoFault.Failed → NextFails self.old }
         ensures not_to_fail { OnOk result (¬ NextFails self.old) }
-        ensures after_ok { IfOk result (λ answer. self.new ≡ record (with_call Call.Size self.old) { asked = self.old.asked ++ (name.now, answer) ∷ [] }) }
         ensures after_failed { result ≡ Err IoFault.Failed → self.new ≡ with_read_fault (with_call Call.Size self.old) }
         ensures after_memory { result ≡ Err IoFault.Memory → (self.new ≡ self.old) ⊎ (self.new ≡ with_call Call.Size self.old) }
     {
@@ -145,7 +144,18 @@ impl Files for MemFiles {
         Ok(answer)
     }
 
-    fn read(&mut self, name: &Text, at: u64, into: &mut [u8]) -> Result<usize, IoFault> {
+    fn read(&mut self, name: &Text, at: u64, into: &mut [u8]) -> Result<usize, IoFault>
+        ensures exact { IfOk result (λ count. Reads (drop at (content self.old.files name.now)) into.old into.new count) }
+        ensures full { IfOk result (λ count. count ≡ min (length (drop at (content self.old.files name.now))) (length into.old)) }
+        ensures after_ok { OnOk result (self.new ≡ with_call (Call.Read at (length into.old)) self.old) }
+        ensures read_faults_kept { self.old.read_faults ≤ self.new.read_faults }
+
+        // The call fails exactly where its number is in the list.
+        ensures to_fail { result ≡ Err IoFault.Failed → NextFails self.old }
+        ensures not_to_fail { OnOk result (¬ NextFails self.old) }
+        ensures after_failed { result ≡ Err IoFault.Failed → self.new ≡ with_read_fault (with_call (Call.Read at (length into.old)) self.old) }
+        ensures after_memory { result ≡ Err IoFault.Memory → (self.new ≡ self.old) ⊎ (self.new ≡ with_call (Call.Read at (length into.old)) self.old) }
+    {
         if self.begin(Call::Read(at, into.len()))? {
             return Err(self.refuse_read());
         }
@@ -153,7 +163,16 @@ impl Files for MemFiles {
         Ok(fill_front(left_from(content, at), into))
     }
 
-    fn create(&mut self, name: &Text) -> Result<(), IoFault> {
+    fn create(&mut self, name: &Text) -> Result<(), IoFault>
+        ensures after_ok { OnOk result (self.new ≡ record (with_call Call.Create self.old) { files = stored name.now [] self.old.files }) }
+        ensures write_faults_kept { self.old.write_faults ≤ self.new.write_faults }
+
+        // The call fails exactly where its number is in the list.
+        ensures to_fail { result ≡ Err IoFault.Failed → NextFails self.old }
+        ensures not_to_fail { OnOk result (¬ NextFails self.old) }
+        ensures after_failed { result ≡ Err IoFault.Failed → self.new ≡ with_write_fault (with_call Call.Create self.old) }
+        ensures after_memory { result ≡ Err IoFault.Memory → (self.new ≡ self.old) ⊎ (self.new ≡ with_call Call.Create self.old) }
+    {
         if self.begin(Call::Create)? {
             return Err(self.refuse_write());
         }
@@ -161,7 +180,17 @@ impl Files for MemFiles {
         Ok(())
     }
 
-    fn append(&mut self, name: &Text, piece: &[u8]) -> Result<usize, IoFault> {
+    fn append(&mut self, name: &Text, piece: &[u8]) -> Result<usize, IoFault>
+        ensures whole { IfOk result (λ count. count ≡ length piece.now) }
+        ensures after_ok { OnOk result (self.new ≡ record (with_call (Call.Append (length piece.now)) self.old) { files = appended name.now piece.now self.old.files }) }
+        ensures write_faults_kept { self.old.write_faults ≤ self.new.write_faults }
+
+        // The call fails exactly where its number is in the list.
+        ensures to_fail { result ≡ Err IoFault.Failed → NextFails self.old }
+        ensures not_to_fail { OnOk result (¬ NextFails self.old) }
+        ensures after_failed { result ≡ Err IoFault.Failed → self.new ≡ with_write_fault (with_call (Call.Append (length piece.now)) self.old) }
+        ensures after_memory { result ≡ Err IoFault.Memory → (self.new ≡ self.old) ⊎ (self.new ≡ with_call (Call.Append (length piece.now)) self.old) }
+    {
         if self.begin(Call::Append(piece.len()))? {
             return Err(self.refuse_write());
         }
