@@ -1,5 +1,5 @@
 -- The calls of a store, and the pieces that a whole file is read and written in.
-use Rattle.std.specs.Prelude.{◌≡◌, ◌⊎◌, ℕ, ◌+◌, ◌-◌, ◌<◌, ◌≤◌, min, List, [], ◌∷◌, ◌++◌, Option}
+use Rattle.std.specs.Prelude.{◌≡◌, ℕ, ◌+◌, ◌-◌, ◌<◌, ◌≤◌, min, List, [], ◌∷◌, ◌++◌, Option}
 use Rattle.std.specs.Option.{option_map}
 use Rattle.ilc_io.specs.declared.call.Call.{Call}
 use Rattle.ilc_io.specs.declared.call.Call.TheVariants.{Size, Read, Create, Append}

@@ -4,3 +4,4 @@ pub mod Piece
 pub mod Fault
 pub mod Calls
 pub mod Mem
+pub mod Host

@@ -5,10 +5,12 @@ ghost use Rattle.ilc_io.specs.Mem.{files_of, NextFails, with_call, with_read_fau
 ghost use Rattle.ilc_io.specs.Piece.{Reads};
 ghost use Rattle.ilc_io.specs.Store.{content, size_of, stored, appended};
 
+use crate::answers::{Answers, note};
 use crate::call::Call;
 use crate::fault::IoFault;
 use crate::files::Files;
 use crate::fill::fill_front;
+use crate::name::str_of;
 use num_core::{Bytes, List, Memory, Text};
 use std::alloc::Global;
 use std::collections::BTreeMap;
@@ -19,7 +21,7 @@ use std::marker::Model;
 #[derive(Debug, Drop)]
 pub struct MemFiles {
     files: BTreeMap<String, Bytes>,
-    asked: List<(Bytes, Option<u64>)>,
+    asked: Answers,
     calls: List<Call>,
     failing: List<u64>,
     read_faults: u64,
@@ -100,18 +102,6 @@ impl MemFiles {
         self.write_faults = self.write_faults.saturating_add(1);
         IoFault::Failed
     }
-
-    /// Notes what `size` answers.
-    fn note(&mut self, name: &Text, answer: Option<u64>) -> Result<(), IoFault>
-        ensures noted { OnOk result (self.new ≡ record self.old { asked = self.old.asked ++ (name.now, answer) ∷ [] }) }
-        ensures err { OnErr result (self.new ≡ self.old) }
-        ensures memory { OnErr result (IsErrOf result IoFault.Memory) }
-    {
-        let name = List::from_slice(self.alloc, name.bytes())?;
-        self.asked
-            .push((name, answer))
-            .map_err(|_| IoFault::Memory)
-    }
 }
 
 impl Files for MemFiles {
@@ -140,7 +130,7 @@ impl Files for MemFiles {
             return Err(self.refuse_read());
         }
         let answer = size_in(&self.files, str_of(name));
-        self.note(name, answer)?;
+        note(&mut self.asked, self.alloc, name, answer)?;
         Ok(answer)
     }
 
@@ -204,16 +194,6 @@ impl Files for MemFiles {
 
     fn write_faults(&self) -> u64 {
         self.write_faults
-    }
-}
-
-/// The text itself.
-fn str_of(name: &Text) -> &str
-    ensures { result.now ≡ name.now }
-{
-    match std::str::from_utf8(name.bytes()) {
-        Ok(text) => text,
-        Err(_) => unreachable!(),
     }
 }
 

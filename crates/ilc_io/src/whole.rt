@@ -96,7 +96,11 @@ fn zeros(alloc: Global, len: usize) -> Result<Vec<u8>, FileFault>
 fn next_len(left: u64, most: usize) -> usize
     ensures { result ≡ min most left }
 {
-    if left < most as u64 { left as usize } else { most }
+    if left < most as u64 {
+        left as usize
+    } else {
+        most
+    }
 }
 
 /// Reads the next piece of a file, of which `bytes` are the first, and gives how many bytes it has, of

@@ -20,7 +20,7 @@ loop-written-preserved g c = record {
 
 pub returns-in_err-written-clause-pieces_broken_off :
     goal.returns-in_err-written-clause-pieces_broken_off
-returns-in_err-written-clause-pieces_broken_off g c = 
+returns-in_err-written-clause-pieces_broken_off g c =
     let p = err_from_is_err_and c.from_residual-in_err-written.result c.from_residual-in_err-written.ensures.1 in
     rw p.1
     (inr (reaches_break _ 4096 _ c.loop-written.written _ _ _ _ c.loop-written.invariant.pieces
