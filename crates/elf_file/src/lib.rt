@@ -1,6 +1,11 @@
 //! Executable files: System V gABI, chapter "Object Files".
 #![tactic(auto)]
 
+mod fault;
+mod header;
 mod layout;
+mod write;
 
-pub use layout::ElfLayout;
+pub use fault::ElfFault;
+pub use layout::{ElfLayout, TEXT_AT};
+pub use write::write_elf;
