@@ -4,6 +4,7 @@
 mod fault;
 mod header;
 mod layout;
+mod load;
 mod write;
 
 pub use fault::ElfFault;
