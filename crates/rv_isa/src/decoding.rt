@@ -1,4 +1,5 @@
 ghost use Rattle.std.specs.Prelude.{◌≡◌, ◌≢◌, ◌↔◌, IfOk, IfErr, IsErr};
+ghost use Rattle.std.specs.Result.{result_ok};
 ghost use Rattle.rv_isa.specs.declared.ins.Ins.{Ins};
 ghost use Rattle.rv_isa.specs.Instructions.{word_of, IsLegal};
 ghost use Rattle.rv_isa.specs.Parts.{parts_of};
@@ -19,6 +20,7 @@ pub fn decode(word: u32) -> Result<Ins, Illegal>
     ensures back { (ins : Ins) → IsLegal ins → word_of ins ≡ word → result ≡ Ok ins }
     ensures illegal { IsErr result ↔ ((ins : Ins) → IsLegal ins → word_of ins ≢ word) }
     ensures carried { IfErr result (λ illegal. illegal.0 ≡ word) }
+    ensures by_parts { result_ok result ≡ instruction (parts_of word) }
 {
     instruction_of(&Fields::new(word)).ok_or(Illegal(word))
 }

@@ -32,6 +32,18 @@ bytes_at allows address count (s ∷ segments) =
     if allows s && covers address count s then Some (take count (drop (address - s.at) s.bytes))
     else bytes_at allows address count segments
 
+-- these bytes in place of those from a place on
+abbrev pub overwritten : ℕ → List ℕ → List ℕ → List ℕ
+overwritten place new old = take place old ++ new ++ drop (place + length new) old
+
+-- the segments with these bytes written from address on, if the addresses lie in one segment that allows it
+abbrev pub with_bytes_at : (Segment → Bool) → ℕ → List ℕ → List Segment → Option (List Segment)
+with_bytes_at allows address bytes [] = None
+with_bytes_at allows address bytes (s ∷ segments) =
+    if allows s && covers address (length bytes) s
+    then Some ((record s { bytes = overwritten (address - s.at) bytes s.bytes }) ∷ segments)
+    else option_map (λ others. s ∷ others) (with_bytes_at allows address bytes segments)
+
 -- ---- registers
 
 -- The lowest bits of a whole number in two's complement.

@@ -1,0 +1,4 @@
+pub mod Count
+pub mod Store
+pub mod Piece
+pub mod Fault
