@@ -1,5 +1,5 @@
 -- How the segments of the program headers are gathered, one header after the other.
-use Rattle.std.proofs.Common.{◌≡◌, ◌∙◌, ap, ℕ, suc, ◌+◌, ◌-◌, ◌<◌, List, arith}
+use Rattle.std.proofs.Common.{◌≡◌, ◌∙◌, ap, ℕ, suc, ◌+◌, ◌-◌, ◌<◌, ◌≤◌, List, arith}
 use Rattle.std.specs.Prelude.{Result, Ok, Err}
 use Rattle.rv_step.specs.declared.segment.Segment.{Segment}
 use Rattle.elf_file.specs.declared.fault.ElfFault.{ElfFault}
@@ -21,3 +21,9 @@ pub ends : (fault : ElfFault) (file : List ℕ) (count done place : ℕ) (segmen
 ends (BadElf at) file count done place segments all left step so_far =
     so_far ∙ next file count done place segments left ∙ ap (and_then (with_headers file (count - (done + 1)) (place + 56))) step
 ends Memory file count done place segments all left step so_far = tt
+
+-- where none is left, all are gathered
+pub gathered : (file : List ℕ) (count done place : ℕ) (segments : List Segment) (all : Result (List Segment) ℕ) → count ≤ done → all ≡ with_headers file (count - done) place segments → all ≡ Ok segments
+gathered file count done place segments all over so_far =
+    let e : count - done ≡ 0 = omega arith in
+    so_far ∙ ap (λ n. with_headers file n place segments) e

@@ -1,3 +1,4 @@
 mod Parts
 mod Loads
 mod Gathering
+mod Sound

@@ -9,4 +9,5 @@ mod write;
 
 pub use fault::ElfFault;
 pub use layout::{ElfLayout, TEXT_AT};
+pub use load::load_elf;
 pub use write::write_elf;

@@ -1,13 +1,16 @@
-ghost use Rattle.std.specs.Prelude.{◌≡◌, ◌+◌, ◌≤◌, ◌&&◌, ◌^◌, length, nat_le, [], IfOk, OnOk};
+ghost use Rattle.std.specs.Prelude.{◌≡◌, ◌+◌, ◌≤◌, ◌&&◌, ◌^◌, length, nat_le, [], Ok, IfOk, OnOk, IsTrue, All, AllPairs};
 ghost use Rattle.std.specs.List.{list_any};
 ghost use Rattle.elf_file.specs.Elf.{Gives, has_elf_header as has_elf_header_in, number_at, program_header as program_header_in, segment_of, overlaps as overlaps_by, with_header as with_header_in, with_headers as with_headers_in};
+ghost use Rattle.elf_file.specs.Elf.{loaded};
+ghost use Rattle.rv_step.specs.Machine.{MachineState};
+ghost use Rattle.rv_step.specs.Segments.{AreDisjoint, DoesNotWrap, AreSegments};
 
 use crate::fault::ElfFault;
 use crate::header::ProgramHeader;
 use crate::write::put_zeros;
 use byteorder::{ByteOrder, LittleEndian};
 use num_core::{Bytes, List, Memory};
-use rv_step::Segment;
+use rv_step::{Machine, Segment};
 use std::alloc::Global;
 
 /// The size of the ELF header.
@@ -44,7 +47,8 @@ fn xword_at(file: &[u8], at: usize) -> u64
 }
 
 fn has_elf_header(file: &[u8]) -> bool
-    ensures { result ≡ has_elf_header_in file.now }
+    ensures value { result ≡ has_elf_header_in file.now }
+    ensures whole { IsTrue result → 64 ≤ length file.now }
 {
     file.len() >= ELF_HEADER
         && file.starts_with(&[0x7F, b'E', b'L', b'F', 2, 1, 1])
@@ -159,7 +163,9 @@ fn segments(
     count: u16,
     start: u64,
 ) -> Result<List<Segment>, ElfFault>
-    ensures { Gives result (with_headers_in file.now count start []) }
+    ensures exact { Gives result (with_headers_in file.now count start []) }
+    ensures disjoint { IfOk result (λ segments. AllPairs AreDisjoint segments) }
+    ensures within { IfOk result (λ segments. All DoesNotWrap segments) }
 {
     let mut segments = List::new(alloc);
     let mut place = start;
@@ -168,4 +174,22 @@ fn segments(
         place += PROGRAM_HEADER;
     }
     Ok(segments)
+}
+
+/// The machine that an executable file loads, at its entry and with all registers 0.
+///
+/// A file is refused at 0 if it isn't an ELF64 file of RISC-V, and at the place of a program header that is cut,
+/// has a part past the end of the file, more bytes in the file than in memory, more than 536,870,912 bytes in
+/// memory, addresses that wrap, or an address of an earlier header. Sections aren't looked at.
+pub fn load_elf(alloc: Global, bytes: &[u8]) -> Result<Machine, ElfFault>
+    ensures exact { Gives result (loaded bytes.now) }
+    // No address of a machine that loads is in two segments, and no segment passes the last address.
+    ensures segments { (machine : MachineState) → loaded bytes.now ≡ Ok machine → AreSegments machine.segments }
+{
+    if !has_elf_header(bytes) {
+        return Err(ElfFault::BadElf(0));
+    }
+    let entry = xword_at(bytes, 24);
+    let segments = segments(alloc, bytes, half_at(bytes, 56), xword_at(bytes, 32))?;
+    Machine::new(alloc, segments, entry).map_err(|_| ElfFault::Memory)
 }
