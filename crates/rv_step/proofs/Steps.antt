@@ -162,10 +162,10 @@ progress_more old mid new steps ended at_end before between now p step =
     record {
       x = then x y;
       running = λ more h.
-        let first : machine_run old (x.taken ++ (y.taken ++ more)) steps ≡ Running mid (streams_before y more x.output x.error) =
+          let first : machine_run old (x.taken ++ (y.taken ++ more)) steps ≡ Running mid (streams_before y more x.output x.error) =
           p.running (y.taken ++ more) (λ e. ap (λ t. t ++ more) (step.takes_nothing e) ∙ h (step.stays_ended e)) in
-        ap (λ given. machine_run old given (steps + 1)) (append_assoc x.taken y.taken more)
-        ∙ more_run old mid (x.taken ++ (y.taken ++ more)) steps (streams_before y more x.output x.error) _ first (step.leads more x.output x.error h);
+          ap (λ given. machine_run old given (steps + 1)) (append_assoc x.taken y.taken more)
+          ∙ more_run old mid (x.taken ++ (y.taken ++ more)) steps (streams_before y more x.output x.error) _ first (step.leads more x.output x.error h);
       exchanged = exchanges_then x y before between now p.exchanged step.exchanged;
       end_is_true = step.end_is_true;
     }
@@ -226,7 +226,7 @@ read_fails old mid new done steps ended before between now lt p broken =
     let y : Exchange = record nothing { taken = broken.taken } in
     let input : List ℕ = broken.taken ++ left now in
     let whole : Passes ((x.taken ++ broken.taken) ++ left now) (record { input = left now; output = x.output ++ []; error = x.error ++ [] }) before now =
-      passes_by (then x y) before now (exchanges_then x y before between now p.exchanged broken.exchanged) in
+    passes_by (then x y) before now (exchanges_then x y before between now p.exchanged broken.exchanged) in
     let same_given : (x.taken ++ broken.taken) ++ left now ≡ x.taken ++ input = append_assoc x.taken broken.taken (left now) in
     let rest : drop (length broken.taken) input ≡ left now = drop-append_seam broken.taken (left now) in
     let end : Streams = record { input = drop (length broken.taken) input; output = x.output; error = x.error } in
@@ -306,3 +306,6 @@ pub fault_writes : (fault : StepFault) (old mid new : MachineState) (done steps 
 fault_writes (Trapped trap') old mid new done steps ended at_end before between now e lt p a = cc
 fault_writes ReadFault old mid new done steps ended at_end before between now e lt p a = cc
 fault_writes WriteFault old mid new done steps ended at_end before between now e lt p a = write_fails old mid new done steps ended before between now lt p a
+
+pub progress_spent : (old new : MachineState) (done steps : ℕ) (at_end : Bool) (before now : Outside) → done ≡ steps → Progress old done new at_end before now → GoesOn old steps new before now
+progress_spent old new done steps at_end before now all p = subst (λ n. GoesOn old n new before now) all (goes_on old new done at_end before now p)

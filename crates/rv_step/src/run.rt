@@ -61,11 +61,15 @@ impl Machine {
     {
         let mut at_end = false;
         for done in 0..steps {
-            if let Some(status) = self.advance(input, out, err, &mut at_end)? {
-                return Ok(Ran {
-                    status,
-                    steps: done + 1,
-                });
+            match self.advance(input, out, err, &mut at_end) {
+                Ok(None) => {}
+                Ok(Some(status)) => {
+                    return Ok(Ran {
+                        status,
+                        steps: done + 1,
+                    });
+                }
+                Err(fault) => return Err(RunFault::from(fault)),
             }
         }
         Err(RunFault::Spent(steps))

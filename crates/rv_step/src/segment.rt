@@ -58,17 +58,10 @@ impl Segment {
 
 /// The first segment that allows the access and holds so many bytes from the address on.
 #[inline]
-fn segment_for(
-    segments: &[Segment],
-    access: Access,
-    address: u64,
-    count: u64,
-) -> Option<&Segment>
+fn segment_for(segments: &[Segment], access: Access, address: u64, count: u64) -> Option<&Segment>
     ensures { option_copied result ≡ find (serves access address count) segments.now }
 {
-    segments
-        .iter()
-        .find(|segment| segment.grants(access) && segment.covers(address, count))
+    segments.iter().find(|segment| segment.grants(access) && segment.covers(address, count))
 }
 
 /// The bytes at so many addresses, if they lie in one segment that allows the access.
