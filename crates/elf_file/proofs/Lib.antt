@@ -1,0 +1,4 @@
+mod Parts
+mod Loads
+mod Gathering
+mod Sound

@@ -1,37 +1,40 @@
 -- Executable files of ELF64: System V gABI, chapter "Object Files", sections "ELF Header" and "Program Header".
-use Rattle.std.specs.Prelude.{ℕ, zero, suc, ◌+◌, ◌-◌, ◌*◌, ◌/◌, ◌%◌, ◌^◌, Bool, true, false, ◌&&◌, ◌||◌, not, ◌==◌, nat_le, nat_lt, if◌then◌else◌, List, [], ◌∷◌, ◌++◌, length, take, drop, replicate, Result, Ok, Err, Option, Some, None}
-use Rattle.std.specs.List.{list_any}
+use Rattle.std.specs.Prelude.{◌≡◌, ℕ, zero, suc, ◌+◌, ◌-◌, ◌*◌, ◌/◌, ◌%◌, ◌^◌, Bool, true, false, ◌&&◌, not, ◌==◌, nat_eq, nat_le, nat_lt, if◌then◌else◌, List, [], ◌∷◌, ◌++◌, length, take, drop, replicate, min, max, Result, Ok, Err}
+use Rattle.std.specs.List.{list_any, starts_with}
 use Rattle.byteorder.specs.Endian.{little_number, little_bytes}
 use Rattle.rv_step.specs.Machine.{MachineState}
 use Rattle.rv_step.specs.declared.segment.Segment.{Segment}
+use Rattle.elf_file.specs.declared.fault.ElfFault.{ElfFault}
+use Rattle.elf_file.specs.declared.fault.ElfFault.TheVariants.{BadElf, Memory}
+use Rattle.elf_file.specs.declared.header.ProgramHeader.{ProgramHeader}
 use Rattle.elf_file.specs.declared.layout.ElfLayout.{ElfLayout}
+
+-- goes on with the value, if there is one
+abbrev pub and_then : {A B E : Type 0} → (A → Result B E) → Result A E → Result B E
+and_then f (Ok x) = f x
+and_then f (Err e) = Err e
 
 -- the number in the n bytes at an offset, the lowest first
 abbrev pub number_at : List ℕ → ℕ → ℕ → ℕ
 number_at file n offset = little_number n (drop offset file)
 
--- the header is whole and says: 64 bits, little-endian, version 1, an executable for RISC-V, with the sizes
--- of this format's headers and no more than 16 program headers
+-- the front of e_ident: 0x7F and "ELF", 64 bits (ELFCLASS64), the lowest byte first (ELFDATA2LSB), version 1
+abbrev pub identification : List ℕ
+identification = 0x7F ∷ 0x45 ∷ 0x4C ∷ 0x46 ∷ 2 ∷ 1 ∷ 1 ∷ []
+
+-- The header is whole, and says that this is an executable (e_type is ET_EXEC) for RISC-V (e_machine is EM_RISCV)
+-- of version 1, with headers of this format's sizes and no more than 16 program headers.
 abbrev pub has_elf_header : List ℕ → Bool
 has_elf_header file =
-    nat_le 64 (length file)
-    && number_at file 4 0 == 0x464C457F && number_at file 1 4 == 2 && number_at file 1 5 == 1 && number_at file 1 6 == 1
+    nat_le 64 (length file) && starts_with nat_eq file identification
     && number_at file 2 16 == 2 && number_at file 2 18 == 243 && number_at file 4 20 == 1
     && number_at file 2 52 == 64 && number_at file 2 54 == 56 && nat_le (number_at file 2 56) 16
 
--- a program header, by its fields p_type, p_flags, p_offset, p_vaddr, p_filesz and p_memsz
-pub record ProgramHeader : Type 0 where
-  pub type : ℕ
-  pub flags : ℕ
-  pub offset : ℕ
-  pub address : ℕ
-  pub file_size : ℕ
-  pub memory_size : ℕ
-
+-- the fields of the program header at a place
 abbrev pub program_header : List ℕ → ℕ → ProgramHeader
 program_header file place =
     record {
-      type = number_at file 4 place;
+      kind = number_at file 4 place;
       flags = number_at file 4 (place + 4);
       offset = number_at file 8 (place + 8);
       address = number_at file 8 (place + 16);
@@ -39,7 +42,7 @@ program_header file place =
       memory_size = number_at file 8 (place + 40);
     }
 
--- the memory that a header of type PT_LOAD asks for: its part of the file, and then zeros
+-- the memory that a header asks for: its part of the file, and then zeros
 abbrev pub segment_of : List ℕ → ProgramHeader → Segment
 segment_of file h =
     record {
@@ -50,15 +53,9 @@ segment_of file h =
       execute = h.flags % 2 == 1;
     }
 
--- they have an address in common
-abbrev pub overlaps : Segment → Segment → Bool
-overlaps s t =
-    nat_lt s.at (t.at + length t.bytes) && nat_lt t.at (s.at + length s.bytes)
-    && nat_lt 0 (length s.bytes) && nat_lt 0 (length t.bytes)
-
--- PT_LOAD is 1
-abbrev pub is_loaded : ProgramHeader → Bool
-is_loaded h = h.type == 1
+-- one of `size` addresses from an address on is that of a byte of the segment
+abbrev pub overlaps : ℕ → ℕ → Segment → Bool
+overlaps address size s = nat_lt (max address s.at) (min (address + size) (s.at + length s.bytes))
 
 -- The header's part of the file is there, its size in memory is no less and at most 512 MiB, its addresses
 -- don't wrap, and no segment before it has one of them.
@@ -66,33 +63,41 @@ abbrev pub can_load : List ℕ → List Segment → ProgramHeader → Bool
 can_load file earlier h =
     nat_le (h.offset + h.file_size) (length file) && nat_le h.file_size h.memory_size
     && nat_le h.memory_size 536870912 && nat_le (h.address + h.memory_size) (2 ^ 64)
-    && not (list_any (overlaps (segment_of file h)) earlier)
+    && not (list_any (overlaps h.address h.memory_size) earlier)
 
--- the segments of `count` program headers from a place of the file on, behind those that came earlier, or the
--- place of the first header that is cut or can't be loaded
-abbrev pub segments_from : List ℕ → ℕ → ℕ → List Segment → Result (List Segment) ℕ
-segments_from file zero place earlier = Ok earlier
-segments_from file (suc count) place earlier =
+-- The segments with that of the program header at a place behind them, or the place where the header is cut or
+-- can't be loaded. A header that is not of type PT_LOAD, which is 1, adds none.
+abbrev pub with_header : List ℕ → ℕ → List Segment → Result (List Segment) ℕ
+with_header file place earlier =
+    let h = program_header file place in
     if nat_lt (length file) (place + 56) then Err place
-    else if not (is_loaded (program_header file place)) then segments_from file count (place + 56) earlier
-    else if can_load file earlier (program_header file place)
-    then segments_from file count (place + 56) (earlier ++ segment_of file (program_header file place) ∷ [])
+    else if not (h.kind == 1) then Ok earlier
+    else if can_load file earlier h then Ok (earlier ++ segment_of file h ∷ [])
     else Err place
+
+-- The segments with those of `count` program headers from a place on behind them, or the first place at which
+-- there is a fault.
+abbrev pub with_headers : List ℕ → ℕ → ℕ → List Segment → Result (List Segment) ℕ
+with_headers file zero place earlier = Ok earlier
+with_headers file (suc count) place earlier = and_then (with_headers file count (place + 56)) (with_header file place earlier)
 
 -- the machine at the entry, with all registers 0
 abbrev pub machine_at : ℕ → List Segment → MachineState
 machine_at entry segments = record { pc = entry; registers = replicate 32 0; segments = segments }
 
-abbrev pub with_segments : ℕ → Result (List Segment) ℕ → Result MachineState ℕ
-with_segments entry (Ok segments) = Ok (machine_at entry segments)
-with_segments entry (Err place) = Err place
-
--- the machine that a file loads, or the place of the header at which it doesn't
+-- The machine that a file loads, or the place of the header at which it doesn't: e_entry is at 24, e_phoff at 32
+-- and e_phnum at 56.
 abbrev pub loaded : List ℕ → Result MachineState ℕ
 loaded file =
     if has_elf_header file
-    then with_segments (number_at file 8 24) (segments_from file (number_at file 2 56) (number_at file 8 32) [])
+    then and_then (λ segments. Ok (machine_at (number_at file 8 24) segments)) (with_headers file (number_at file 2 56) (number_at file 8 32) [])
     else Err 0
+
+-- A call's result is what reading gives, unless memory ran out.
+abbrev pub Gives : {X : Type 0} → Result X ElfFault → Result X ℕ → Type 0
+Gives (Ok x) reading = reading ≡ Ok x
+Gives (Err (BadElf place)) reading = reading ≡ Err place
+Gives (Err Memory) reading = Unit {0}
 
 -- ---- the file of a program
 
@@ -119,14 +124,13 @@ xword n = little_bytes 8 n
 
 -- e_ident, e_type, e_machine, e_version, e_entry, e_phoff, e_shoff, e_flags, e_ehsize, e_phentsize, e_phnum,
 -- e_shentsize, e_shnum, e_shstrndx
-abbrev pub elf_header : ℕ → List ℕ
+unfoldable pub elf_header : ℕ → List ℕ
 elf_header entry =
-    (0x7F ∷ 0x45 ∷ 0x4C ∷ 0x46 ∷ 2 ∷ 1 ∷ 1 ∷ 0 ∷ 0 ∷ 0 ∷ 0 ∷ 0 ∷ 0 ∷ 0 ∷ 0 ∷ 0 ∷ [])
-    ++ half 2 ++ half 243 ++ word 1 ++ xword entry ++ xword 64 ++ xword 0 ++ word 0
+    identification ++ replicate 9 0 ++ half 2 ++ half 243 ++ word 1 ++ xword entry ++ xword 64 ++ xword 0 ++ word 0
     ++ half 64 ++ half 56 ++ half 2 ++ half 0 ++ half 0 ++ half 0
 
 -- p_type, p_flags, p_offset, p_vaddr, p_paddr, p_filesz, p_memsz, p_align
-abbrev pub load_header : ℕ → ℕ → ℕ → ℕ → List ℕ
+unfoldable pub load_header : ℕ → ℕ → ℕ → ℕ → List ℕ
 load_header flags offset file_size memory_size =
     word 1 ++ word flags ++ xword offset ++ xword (base + offset) ++ xword (base + offset)
     ++ xword file_size ++ xword memory_size ++ xword 4096

@@ -1,5 +1,14 @@
 use num_core::Bytes;
 
+/// The address of the first byte of the file.
+pub(crate) const BASE: u64 = 0x10000;
+
+/// The size of the headers of a file that is written: the ELF header and two program headers.
+pub(crate) const HEADERS_SIZE: u64 = 176;
+
+/// The address of the first byte of the text of a file that is written, which stands behind the headers.
+pub const TEXT_AT: u64 = 0x100B0;
+
 /// What an executable file is made of.
 ///
 /// The file begins with 176 bytes of headers. The text follows, and both are the first segment, at address
