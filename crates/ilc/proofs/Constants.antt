@@ -35,16 +35,16 @@ pub lower_is_immediate : (n : ℤ) → IsImmediate (lower n)
 lower_is_immediate n =
     let r : ℕ = low_bits 32 n % 4096 in
     elim (signed_cases r (omega arith)) [
-      inl q ↦ subst IsImmediate (sym q.1) (omega (arith, ints), omega (arith, ints))
-    | inr q ↦ subst IsImmediate (sym q.1) (omega (arith, ints), omega (arith, ints))
+      | inl q ↦ subst IsImmediate (sym q.1) (omega (arith, ints), omega (arith, ints))
+      | inr q ↦ subst IsImmediate (sym q.1) (omega (arith, ints), omega (arith, ints))
     ]
 
 pub lower_bits : (n : ℤ) → twos_complement 12 (lower n) < 4096
 lower_bits n =
     let r : ℕ = low_bits 32 n % 4096 in
     elim (signed_cases r (omega arith)) [
-      inl q ↦ subst (λ z. twos_complement 12 z < 4096) (sym q.1) (omega arith)
-    | inr q ↦ subst (λ z. twos_complement 12 z < 4096) (sym q.1) (omega arith)
+      | inl q ↦ subst (λ z. twos_complement 12 z < 4096) (sym q.1) (omega arith)
+      | inr q ↦ subst (λ z. twos_complement 12 z < 4096) (sym q.1) (omega arith)
     ]
 
 same_sum : (v v' : ℕ) (l l' : ℤ) → v ≡ v' → l ≡ l' → low_bits 32 (pos v +ℤ l) ≡ low_bits 32 (pos v' +ℤ l')
@@ -60,17 +60,17 @@ sum_is word h =
     let high : ℕ = ((word + 2048) / 4096 % 2 ^ 20) * 2 ^ 12 in
     let r : ℕ = word % 4096 in
     elim (signed_cases r (omega arith)) [
-      inl q ↦ elim (extended_cases high (omega arith)) [
-          inl p ↦ same_sum _ high _ (pos r) p.1 q.1 ∙ low_32_is (pos high +ℤ pos r) word 0 0 h (omega (arith, ints))
+      | inl q ↦ elim (extended_cases high (omega arith)) [
+        | inl p ↦ same_sum _ high _ (pos r) p.1 q.1 ∙ low_32_is (pos high +ℤ pos r) word 0 0 h (omega (arith, ints))
         | inr p ↦ same_sum _ (high + (2 ^ 64 - 2 ^ 32)) _ (pos r) p.1 q.1 ∙ low_32_is (pos (high + (2 ^ 64 - 2 ^ 32)) +ℤ pos r) word 0 (2 ^ 32 - 1) h (omega (arith, ints))
       ]
-    | inr q ↦ elim (carried word h) [
-          inl c ↦ elim (extended_cases high (omega arith)) [
-              inl p ↦ same_sum _ high _ (negsuc (4095 - r)) p.1 q.1 ∙ low_32_is (pos high +ℤ negsuc (4095 - r)) word 0 0 h (omega (arith, ints))
-            | inr p ↦ same_sum _ (high + (2 ^ 64 - 2 ^ 32)) _ (negsuc (4095 - r)) p.1 q.1 ∙ low_32_is (pos (high + (2 ^ 64 - 2 ^ 32)) +ℤ negsuc (4095 - r)) word 0 (2 ^ 32 - 1) h (omega (arith, ints))
-          ]
+      | inr q ↦ elim (carried word h) [
+        | inl c ↦ elim (extended_cases high (omega arith)) [
+          | inl p ↦ same_sum _ high _ (negsuc (4095 - r)) p.1 q.1 ∙ low_32_is (pos high +ℤ negsuc (4095 - r)) word 0 0 h (omega (arith, ints))
+          | inr p ↦ same_sum _ (high + (2 ^ 64 - 2 ^ 32)) _ (negsuc (4095 - r)) p.1 q.1 ∙ low_32_is (pos (high + (2 ^ 64 - 2 ^ 32)) +ℤ negsuc (4095 - r)) word 0 (2 ^ 32 - 1) h (omega (arith, ints))
+        ]
         | inr c ↦ let zero_high : high ≡ 0 = omega arith in
-          same_sum _ 0 _ (negsuc (4095 - r)) (ap extended zero_high) q.1 ∙ low_32_is (pos 0 +ℤ negsuc (4095 - r)) word 1 0 h (omega (arith, ints))
+            same_sum _ 0 _ (negsuc (4095 - r)) (ap extended zero_high) q.1 ∙ low_32_is (pos 0 +ℤ negsuc (4095 - r)) word 1 0 h (omega (arith, ints))
       ]
     ]
 

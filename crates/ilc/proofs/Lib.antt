@@ -3,3 +3,8 @@ pub mod Place
 pub mod Registers
 pub mod Simulation
 pub mod Compiled
+pub mod Words
+pub mod Printing
+pub mod BareBody
+pub mod Hex
+pub mod Answers

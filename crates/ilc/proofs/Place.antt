@@ -61,10 +61,10 @@ fetches front code k m ins at e fits =
     let allowed : at.segment.execute && covers m.pc 4 at.segment ≡ true = ap (λ b. b && covers m.pc 4 at.segment) at.executable ∙ inside in
     let offset : m.pc - at.segment.at ≡ length front + 4 * k = omega arith in
     let bytes : take 4 (drop (m.pc - at.segment.at) at.segment.bytes) ≡ little_bytes 4 (word_of ins) =
-      ap (λ n. take 4 (drop n at.segment.bytes)) offset
-      ∙ ap (λ bs. take 4 (drop (length front + 4 * k) bs)) at.bytes
-      ∙ ap (take 4) (drop-append-add front (text_of code) (4 * k))
-      ∙ word_at code k ins e in
+    ap (λ n. take 4 (drop n at.segment.bytes)) offset
+    ∙ ap (λ bs. take 4 (drop (length front + 4 * k) bs)) at.bytes
+    ∙ ap (take 4) (drop-append-add front (text_of code) (4 * k))
+    ∙ word_at code k ins e in
     ap (λ b. cond b (option_map (little_number 4) (bytes_at (λ s. s.execute) m.pc 4 m.segments)) None) aligned
     ∙ ap (λ ss. option_map (little_number 4) (bytes_at (λ s. s.execute) m.pc 4 ss)) at.memory
     ∙ ap (λ b. option_map (little_number 4) (cond b (Some (take 4 (drop (m.pc - at.segment.at) at.segment.bytes))) (bytes_at (λ s. s.execute) m.pc 4 at.others))) allowed
@@ -88,7 +88,7 @@ stands_next front code k m m' at h pc segments =
       whole_words = at.whole_words;
       bytes = at.bytes;
       pc = let here : m.pc ≡ at.segment.at + length front + 4 * k = at.pc in
-        let room : at.segment.at + length front + 4 * length code < 2 ^ 64 = at.room in
-        omega arith;
+          let room : at.segment.at + length front + 4 * length code < 2 ^ 64 = at.room in
+          omega arith;
       room = at.room;
     }

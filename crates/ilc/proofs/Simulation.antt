@@ -22,7 +22,6 @@ use Rattle.ilc.proofs.Place.{StandsAt, steps_at, stands_next}
 use Rattle.ilc.proofs.Constants.{constant_value, lower_is_immediate, lower_bits}
 use Rattle.ilc.proofs.Registers.{HasRegisters, Gets, has_registers, register_same, register_other, low_byte}
 
-
 -- the code of a constant and a return
 abbrev pub program : ℤ → List Ins
 program n = Lui 10 (upper n) ∷ Addiw 10 10 (lower n) ∷ Addi 17 0 (pos 93) ∷ Ecall ∷ []
@@ -95,9 +94,9 @@ machine_load n front m streams fits at has =
     let at2 : StandsAt front (program n) 2 m2 = stands_next front (program n) 1 m1 m2 at1 (omega arith) refl refl in
     let gets2 : Gets 10 w m1 m2 = record { registers = refl } in
     let value : register m2 10 ≡ low_bits 64 n =
-      register_same 10 w m1 m2 (omega arith) has1 gets2
-      ∙ ap (λ x. low_word (pos x +ℤ lower n)) (register_same 10 v m m1 (omega arith) has gets1)
-      ∙ constant_value n fits in
+    register_same 10 w m1 m2 (omega arith) has1 gets2
+    ∙ ap (λ x. low_word (pos x +ℤ lower n)) (register_same 10 v m m1 (omega arith) has gets1)
+    ∙ constant_value n fits in
     (m2, ap (one_more machine_step) step1 ∙ step2, at2, has_registers 10 w m1 m2 (omega arith) has1 gets2, value)
 
 -- and at the return

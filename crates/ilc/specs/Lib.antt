@@ -2,3 +2,9 @@ pub mod Cil
 pub mod Code
 pub mod Bare
 pub mod Implements
+pub mod Words
+pub mod Seen
+pub mod Line
+pub mod Printed
+pub mod Cause
+pub mod Answer

@@ -1,14 +1,40 @@
-ghost use Rattle.std.specs.Prelude.{◌≡◌, ◌++◌, IfOk, OnOk};
+ghost use Rattle.std.specs.Prelude.{◌≡◌, ◌≤◌, ◌++◌, IfOk, OnOk};
+ghost use Rattle.ilc.specs.Bare.{IsConstant};
+ghost use Rattle.ilc.specs.Implements.{Implements};
 ghost use Rattle.ilc.specs.Code.{constant_code, exit_code, operation_code, instr_code, code_of, text_of, upper as upper_of, lower as lower_of};
 
 use byteorder::{ByteOrder, LittleEndian};
-use il_code::{Instr, Operation};
-use num_core::{Bytes, List, Memory};
+use elf_file::{ElfLayout, TEXT_AT, write_elf};
+use il_code::{Body, Instr, Operation};
+use num_core::{Bounds, Bytes, List, Memory};
 use rv_isa::{Immediate, Ins, Register, UpperImmediate, encode};
 use std::alloc::Global;
 
 /// The number of the environment's call that ends a program.
 const EXIT: i16 = 93;
+
+/// The zeros behind the text, in which a program has its heap and its stack.
+fn zeros(bounds: Bounds) -> u64
+    ensures bound { result ≤ 335544320 }
+{
+    bounds.heap + bounds.stack
+}
+
+/// The executable file of a bare body, which does what the body does.
+pub(crate) fn compile(alloc: Global, body: &Body) -> Result<Bytes, Memory>
+    requires { IsConstant body.now }
+    ensures { IfOk result (Implements body.now) }
+{
+    let code = code(alloc, body.code.as_slice())?;
+    let text = text(alloc, code.as_slice())?;
+    let layout = ElfLayout {
+        text,
+        rest: List::new(alloc),
+        zeros: zeros(Bounds::standard()),
+        entry: TEXT_AT,
+    };
+    write_elf(alloc, &layout)
+}
 
 /// The instructions of a machine for those of a body.
 fn code(alloc: Global, instrs: &[Instr]) -> Result<Vec<Ins>, Memory>

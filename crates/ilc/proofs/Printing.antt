@@ -1,0 +1,75 @@
+-- What two writes in a row add.
+use Rattle.std.proofs.Common.{◌≡◌, ◌∙◌, ℕ, ◌+◌, ◌<◌, ◌≤◌, List, [], ◌∷◌, ◌++◌, length, take, drop, Option, Some, None, Result, Ok, Err, refl, ap, sym, append_assoc, OnErr, OnOk, IfOk, subst, suc, get_or, drop-cons, codes}
+use Rattle.std.proofs.lemmas.Grind.{flat_map-append}
+use Rattle.std.proofs.lemmas.List.{take-append-drop}
+use Rattle.std.proofs.Math.Seq.{take-add}
+use Rattle.std.specs.List.{flat_map}
+use Rattle.std.specs.Option.{option_map}
+use Rattle.ilc.specs.Printed.{Adds, AddsFront}
+
+-- what holds holds of an error
+pub on_err : {T E P : Type 0} (r : Result T E) → P → OnErr r P
+on_err (Ok x) p = tt
+on_err (Err e) p = p
+
+added_twice : (held : Option (List ℕ)) (a b : List ℕ) → option_map (λ bytes. bytes ++ b) (option_map (λ bytes. bytes ++ a) held) ≡ option_map (λ bytes. bytes ++ (a ++ b)) held
+added_twice None a b = refl
+added_twice (Some bytes) a b = ap Some (append_assoc bytes a b)
+
+pub adds_more : (a b : List ℕ) (old mid new : Option (List ℕ)) → Adds a old mid → Adds b mid new → Adds (a ++ b) old new
+adds_more a b old mid new p q = q ∙ (ap (option_map (λ bytes. bytes ++ b)) p ∙ added_twice old a b)
+
+pub adds_then_front : (a b : List ℕ) (old mid new : Option (List ℕ)) → Adds a old mid → AddsFront b mid new → AddsFront (a ++ b) old new
+adds_then_front a b old mid new p f =
+    record {
+      front = a ++ f.front;
+      rest = f.rest;
+      whole = ap (λ bytes. a ++ bytes) f.whole ∙ sym (append_assoc a f.front f.rest);
+      added = adds_more a f.front old mid new p f.added;
+    }
+
+pub front_of_more : (a b : List ℕ) (old new : Option (List ℕ)) → AddsFront a old new → AddsFront (a ++ b) old new
+front_of_more a b old new f =
+    record {
+      front = f.front;
+      rest = f.rest ++ b;
+      whole = ap (λ bytes. bytes ++ b) f.whole ∙ append_assoc f.front f.rest b;
+      added = f.added;
+    }
+
+-- a refused write leaves the first bytes
+pub front_taken : (n : ℕ) (bytes : List ℕ) (old mid new : Option (List ℕ)) → Adds (take n bytes) old mid → new ≡ mid → AddsFront bytes old new
+front_taken n bytes old mid new p same =
+    record { front = take n bytes; rest = drop n bytes; whole = sym (take-append-drop n bytes); added = same ∙ p }
+
+pub adds_next : (n k : ℕ) (bytes : List ℕ) (old mid new : Option (List ℕ)) → Adds (take n bytes) old mid → Adds (take k (drop n bytes)) mid new → Adds (take (n + k) bytes) old new
+adds_next n k bytes old mid new p q = subst (λ front. Adds front old new) (sym (take-add n k bytes)) (adds_more (take n bytes) (take k (drop n bytes)) old mid new p q)
+
+-- the same bytes in other words
+pub printed_as : {T E : Type 0} (r : Result T E) (pieces line : List ℕ) (old new : Option (List ℕ)) → pieces ≡ line → OnOk r (Adds pieces old new) → OnOk r (Adds line old new)
+printed_as r pieces line old new e h = subst (λ bytes. OnOk r (Adds bytes old new)) e h
+
+-- the pieces up to one, the piece, and those behind it
+pub pieces-split : {X : Type 0} (f : X → List ℕ) (xs : List X) (i : ℕ) (d : X) → i < length xs → flat_map f xs ≡ flat_map f (take i xs) ++ (f (get_or xs i d) ++ flat_map f (drop (suc i) xs))
+pieces-split f xs i d h =
+    ap (flat_map f) (sym (take-append-drop i xs))
+    ∙ (flat_map-append f (take i xs) (drop i xs)
+    ∙ ap (λ ys. flat_map f (take i xs) ++ flat_map f ys) (drop-cons xs i d h))
+
+pub breaks_off : {X : Type 0} (f : X → List ℕ) (xs : List X) (i : ℕ) (d : X) (old mid new : Option (List ℕ)) → i < length xs → Adds (flat_map f (take i xs)) old mid → AddsFront (f (get_or xs i d)) mid new → AddsFront (flat_map f xs) old new
+breaks_off f xs i d old mid new h p q =
+    subst (λ bytes. AddsFront bytes old new) (sym (pieces-split f xs i d h))
+    (adds_then_front (flat_map f (take i xs)) _ old mid new p (front_of_more (f (get_or xs i d)) (flat_map f (drop (suc i) xs)) mid new q))
+
+-- what holds of an answer holds of the value in it
+pub if_ok_at : {T E : Type 0} (r : Result T E) (x : T) (P : T → Type 0) → r ≡ Ok x → IfOk r P → P x
+if_ok_at r x P e h = subst (λ s. IfOk s P) e h
+
+-- a line with two parts that are known by equations
+pub four_parts : (head a a' b b' : List ℕ) → a ≡ a' → b ≡ b' → flat_map (λ part. part) (head ∷ a ∷ codes " " ∷ b ∷ codes "\n" ∷ []) ≡ flat_map (λ part. part) (head ∷ a' ∷ codes " " ∷ b' ∷ codes "\n" ∷ [])
+four_parts head a a' b b' e f =
+    ap (λ x. flat_map (λ part. part) (head ∷ x ∷ codes " " ∷ b ∷ codes "\n" ∷ [])) e
+    ∙ ap (λ x. flat_map (λ part. part) (head ∷ a' ∷ codes " " ∷ x ∷ codes "\n" ∷ [])) f
+
+pub begun_as : {T E : Type 0} (r : Result T E) (pieces line : List ℕ) (old new : Option (List ℕ)) → pieces ≡ line → OnErr r (AddsFront pieces old new) → OnErr r (AddsFront line old new)
+begun_as r pieces line old new e h = subst (λ bytes. OnErr r (AddsFront bytes old new)) e h

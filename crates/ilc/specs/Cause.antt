@@ -1,0 +1,168 @@
+-- When each outcome of a command comes.
+use Rattle.std.specs.Prelude.{◌≡◌, ◌⊎◌, ℕ, ◌<◌, ◌≤◌, List, [], ◌∷◌, ◌++◌, length, Option, Some, None, IfSome, Result, Ok, Err}
+use Rattle.std.specs.Option.{option_map}
+use Rattle.std.specs.FinMap.{get}
+use Rattle.ilc_io.specs.Count.{HasRisen}
+use Rattle.ilc_io.specs.declared.fault.FileFault.{FileFault}
+use Rattle.ilc_io.specs.declared.fault.FileFault.TheVariants.{Missing, Failed, TooLong as FileTooLong, Memory as FileMemory}
+use Rattle.ilc_io.specs.Store.{Store, size_of, stored, IsPartlyStored}
+use Rattle.il_code.specs.declared.body.Body.{Body as MethodBody}
+use Rattle.il_code.specs.Tiny.{tiny_body}
+use Rattle.rv_step.specs.Machine.{MachineState}
+use Rattle.rv_step.specs.Outcomes.{GoesOn, EndsAfter, TrapsWithin, ReadFailsWithin, WriteFailsWithin}
+use Rattle.elf_file.specs.Elf.{loaded}
+use Rattle.ilc.specs.Bare.{bare_code, ReadsBare}
+use Rattle.ilc.specs.Implements.{Implements}
+use Rattle.ilc.specs.Seen.{StoreSeen, StreamsSeen}
+use Rattle.ilc.specs.Words.{command_of, word_at}
+use Rattle.ilc.specs.declared.command.Command.{Command}
+use Rattle.ilc.specs.declared.command.Command.TheVariants.{Body, Run}
+use Rattle.ilc.specs.declared.outcome.Outcome.{Outcome}
+use Rattle.ilc.specs.declared.outcome.Outcome.TheVariants.{Usage, NoFile, TooLong, BadHeader, OpcodeOutside, BadElf, ReadFault, WriteFault, Spent, Trapped, Ended, Written, Memory}
+
+-- ---- reading a file
+
+abbrev pub SameFiles : StoreSeen → StoreSeen → Type 0
+SameFiles before now = now.told ≡ before.told
+
+-- what `size` gave for a name, once
+abbrev pub IsAsked : List ℕ → Option ℕ → StoreSeen → StoreSeen → Type 0
+IsAsked name answer before now = now.asked ≡ before.asked ++ (name, answer) ∷ []
+
+-- A file of at most `limit` bytes was read whole. Where the store tells its files, these are its bytes.
+pub record IsRead (name : List ℕ) (limit : ℕ) (bytes : List ℕ) (before now : StoreSeen) : Type 0 where
+  pub content : (store : Store) → before.told ≡ Some store → get store name ≡ Some bytes
+  pub size : ℕ
+  pub asked : IsAsked name (Some size) before now
+  pub whole : length bytes ≤ size
+  pub within : size ≤ limit
+
+-- `size` gave no number for the file; where the store tells its files, the name isn't there
+pub record IsMissing (name : List ℕ) (before now : StoreSeen) : Type 0 where
+  pub asked : IsAsked name None before now
+  pub not_there : (store : Store) → before.told ≡ Some store → get store name ≡ None
+
+-- `size` gave a number above the limit; where the store tells its files, it is the size of the file
+pub record IsTooLong (name : List ℕ) (limit size : ℕ) (before now : StoreSeen) : Type 0 where
+  pub asked : IsAsked name (Some size) before now
+  pub above : limit < size
+  pub its_size : (store : Store) → before.told ≡ Some store → size_of store name ≡ Some size
+
+-- what a fault in reading the file that the word at an index names comes out as
+abbrev pub outcome_of_read : FileFault → ℕ → Outcome
+outcome_of_read Missing index = NoFile index
+outcome_of_read (FileTooLong size) index = TooLong size
+outcome_of_read Failed index = ReadFault
+outcome_of_read FileMemory index = Memory
+
+-- ---- `body FILE -o OUT`
+
+-- the most bytes that the file of a body may have
+abbrev pub body_limit : ℕ
+body_limit = 16777216
+
+-- the outcomes of code that is no constant and return
+abbrev pub IsOutside : List ℕ → Outcome → Type 0
+IsOutside code (OpcodeOutside offset) = bare_code code ≡ Err offset
+IsOutside code Memory = Unit {0}
+IsOutside code _ = ⊥
+
+-- the outcomes of bytes that are no bare body, in the file that the word at an index names
+abbrev pub NotBare : ℕ → List ℕ → Outcome → Type 0
+NotBare index bytes (BadHeader word offset) = (word ≡ index) × (tiny_body bytes ≡ Err offset)
+NotBare index bytes (OpcodeOutside offset) = (code : List ℕ) × (tiny_body bytes ≡ Ok code) × (bare_code code ≡ Err offset)
+NotBare index bytes Memory = Unit {0}
+NotBare index bytes _ = ⊥
+
+-- a bare body was read from a file, and the executable file `elf` does what it does
+pub record IsBuilt (file elf : List ℕ) (before now : StoreSeen) : Type 0 where
+  pub bytes : List ℕ
+  pub read : IsRead file body_limit bytes before now
+  pub body : MethodBody
+  pub reads : ReadsBare bytes body
+  pub implements : Implements body elf
+
+-- When each outcome comes of a body that wasn't built. Want of memory may come at any time.
+abbrev pub NotBuilt : ℕ → List ℕ → StoreSeen → StoreSeen → Outcome → Type 0
+NotBuilt index file before now (NoFile word) = (word ≡ index) × IsMissing file before now
+NotBuilt index file before now (TooLong size) = IsTooLong file body_limit size before now
+NotBuilt index file before now ReadFault = HasRisen before.read_faults now.read_faults
+NotBuilt index file before now (BadHeader word offset) =
+    (bytes : List ℕ) × IsRead file body_limit bytes before now × (word ≡ index) × (tiny_body bytes ≡ Err offset)
+NotBuilt index file before now (OpcodeOutside offset) =
+    (bytes : List ℕ) × IsRead file body_limit bytes before now × (code : List ℕ) × (tiny_body bytes ≡ Ok code) × (bare_code code ≡ Err offset)
+NotBuilt index file before now Memory = Unit {0}
+NotBuilt index file before now _ = ⊥
+
+-- When each outcome comes of the bytes that are to be written to a file.
+abbrev pub WriteOutcome : List ℕ → List ℕ → StoreSeen → StoreSeen → Outcome → Type 0
+WriteOutcome out elf before now Written = now.told ≡ option_map (stored out elf) before.told
+WriteOutcome out elf before now WriteFault = HasRisen before.write_faults now.write_faults × IsPartlyStored out elf before.told now.told
+WriteOutcome out elf before now Memory = IsPartlyStored out elf before.told now.told
+WriteOutcome out elf before now _ = ⊥
+
+-- Either the body wasn't built, and no file has changed, or it was, and its file was written or not.
+abbrev pub BodyOutcome : ℕ → List ℕ → List ℕ → StoreSeen → StoreSeen → Outcome → Type 0
+BodyOutcome index file out before now outcome =
+    (NotBuilt index file before now outcome × SameFiles before now)
+    ⊎ ((elf : List ℕ) × IsBuilt file elf before now × WriteOutcome out elf before now outcome)
+
+-- ---- `run ELF`
+
+-- the most bytes that an executable file may have
+abbrev pub elf_limit : ℕ
+elf_limit = 1073741824
+
+-- the most steps that the machine does
+abbrev pub step_limit : ℕ
+step_limit = 1000000000000
+
+-- an executable file was read, and loads as a machine
+pub record IsLoaded (elf : List ℕ) (machine : MachineState) (before now : StoreSeen) : Type 0 where
+  pub bytes : List ℕ
+  pub read : IsRead elf elf_limit bytes before now
+  pub loads : loaded bytes ≡ Ok machine
+
+-- When each outcome comes of a file that wasn't loaded.
+abbrev pub NotLoaded : ℕ → List ℕ → StoreSeen → StoreSeen → Outcome → Type 0
+NotLoaded index elf before now (NoFile word) = (word ≡ index) × IsMissing elf before now
+NotLoaded index elf before now (TooLong size) = IsTooLong elf elf_limit size before now
+NotLoaded index elf before now ReadFault = HasRisen before.read_faults now.read_faults
+NotLoaded index elf before now (BadElf word place) =
+    (bytes : List ℕ) × IsRead elf elf_limit bytes before now × (word ≡ index) × (loaded bytes ≡ Err place)
+NotLoaded index elf before now Memory = Unit {0}
+NotLoaded index elf before now _ = ⊥
+
+-- When each outcome comes of a machine that runs.
+abbrev pub MachineOutcome : MachineState → StreamsSeen → StreamsSeen → Outcome → Type 0
+MachineOutcome machine before now (Ended status) = (steps : ℕ) × (steps ≤ step_limit) × EndsAfter machine steps status before.outside now.outside
+MachineOutcome machine before now (Spent steps) = (steps ≡ step_limit) × (new : MachineState) × GoesOn machine step_limit new before.outside now.outside
+MachineOutcome machine before now (Trapped trap) = (new : MachineState) × TrapsWithin machine step_limit trap new before.outside now.outside
+MachineOutcome machine before now ReadFault =
+    HasRisen before.input_faults now.input_faults
+    × (new : MachineState) × ReadFailsWithin machine step_limit new before.outside now.outside
+MachineOutcome machine before now WriteFault =
+    (HasRisen before.output_faults now.output_faults ⊎ HasRisen before.error_faults now.error_faults)
+    × (new : MachineState) × WriteFailsWithin machine step_limit new before.outside now.outside
+MachineOutcome machine before now _ = ⊥
+
+-- Either the file wasn't loaded, and the streams are as before, or its machine ran.
+abbrev pub RunOutcome : ℕ → List ℕ → StoreSeen → StoreSeen → StreamsSeen → StreamsSeen → Outcome → Type 0
+RunOutcome index elf before now streams streams' outcome =
+    (NotLoaded index elf before now outcome × (streams' ≡ streams))
+    ⊎ ((machine : MachineState) × IsLoaded elf machine before now × MachineOutcome machine streams streams' outcome)
+
+-- ---- any command
+
+-- With a bad word nothing is done; else the command's own outcomes.
+abbrev pub CommandOutcome : Result Command ℕ → List (List ℕ) → StoreSeen → StoreSeen → StreamsSeen → StreamsSeen → Outcome → Type 0
+CommandOutcome (Err index) words before now streams streams' outcome =
+    (outcome ≡ Usage index) × (now ≡ before) × (streams' ≡ streams)
+CommandOutcome (Ok (Body file out)) words before now streams streams' outcome =
+    BodyOutcome file (word_at words file) (word_at words out) before now outcome × (streams' ≡ streams)
+CommandOutcome (Ok (Run elf)) words before now streams streams' outcome =
+    RunOutcome elf (word_at words elf) before now streams streams' outcome × SameFiles before now
+
+-- the cause of an outcome
+abbrev pub Cause : List (List ℕ) → StoreSeen → StoreSeen → StreamsSeen → StreamsSeen → Outcome → Type 0
+Cause words = CommandOutcome (command_of words) words

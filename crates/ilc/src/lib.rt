@@ -1,4 +1,0 @@
-//! The program `ilc`.
-#![tactic(auto)]
-
-mod compile;

@@ -1,0 +1,68 @@
+//! `ilc` compiles CIL assemblies to one executable file for RV64IM, and runs such a file on a machine.
+#![tactic(auto)]
+
+mod bare;
+mod command;
+mod compile;
+mod outcome;
+mod perform;
+mod report;
+mod top;
+
+pub use command::Command;
+use ilc_io::{HostFiles, StreamSink, StreamSource};
+use num_core::{List, Memory, Text, TextFault};
+pub use outcome::Outcome;
+use std::alloc::Global;
+use std::env::{Env, FillError};
+use std::process::ExitCode;
+pub use top::ilc;
+
+/// The most bytes that Linux lets a word have.
+const MAX_WORD: usize = 131_072;
+
+/// The status of want of memory.
+const NO_MEMORY: u8 = 75;
+
+fn main(rt: HostRuntime) -> ExitCode {
+    let alloc = rt.alloc();
+    let Ok(words) = command_line(&rt, alloc) else {
+        return ExitCode::from(NO_MEMORY);
+    };
+    let mut files = HostFiles::new(alloc, &rt);
+    let mut input = StreamSource::new(rt.stdin());
+    let mut out = StreamSink::new(rt.stdout());
+    let mut err = StreamSink::new(rt.stderr());
+    ExitCode::from(ilc(
+        alloc,
+        words.as_slice(),
+        &mut files,
+        &mut input,
+        &mut out,
+        &mut err,
+    ))
+}
+
+/// The words behind the program's name. One that isn't UTF-8 comes as the empty word.
+fn command_line(system: &impl Env, alloc: Global) -> Result<List<Text>, Memory> {
+    let mut words = List::new(alloc);
+    let mut buffer = vec![in alloc; 0; MAX_WORD]?;
+    for index in 1..usize::MAX {
+        let word = match system.arg(index, &mut buffer) {
+            Ok(size) => word(alloc, &buffer[..size])?,
+            Err(FillError::NotPresent) => break,
+            Err(_) => word(alloc, &[])?,
+        };
+        words.push(word).map_err(|_| Memory)?;
+    }
+    Ok(words)
+}
+
+/// The word of these bytes, or the empty word where they are no UTF-8.
+fn word(alloc: Global, bytes: &[u8]) -> Result<Text, Memory> {
+    match Text::new(alloc, bytes) {
+        Ok(word) => Ok(word),
+        Err(TextFault::NotUtf8(_)) => Text::new(alloc, &[]).map_err(|_| Memory),
+        Err(TextFault::Memory) => Err(Memory),
+    }
+}

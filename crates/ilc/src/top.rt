@@ -1,0 +1,40 @@
+ghost use Rattle.std.specs.Prelude.{◌≡◌, ℕ, Ok};
+ghost use Rattle.ilc.specs.Answer.{Answers, HasWritten};
+ghost use Rattle.ilc.specs.Seen.{store_seen, streams_seen};
+ghost use Rattle.ilc.specs.Words.{command_of, word_at};
+
+use crate::command::Command;
+use crate::perform::perform;
+use crate::report::report;
+use ilc_io::{Files, Sink, Source};
+use num_core::Text;
+use std::alloc::Global;
+
+/// Does what the words of a command line say, over these files and streams, and gives the status that the
+/// process ends with.
+///
+/// The words are those behind the program's name: `body FILE -o OUT` builds the bare body in FILE and writes an
+/// executable file to OUT, and `run ELF` runs an executable file on the machine. A refusal prints one line as
+/// error text.
+pub fn ilc<F: Files, I: Source, O: Sink, E: Sink>(
+    alloc: Global,
+    words: &[Text],
+    files: &mut F,
+    input: &mut I,
+    out: &mut O,
+    err: &mut E,
+) -> u8
+    ensures answers { Answers words.now
+        (store_seen (F.told files.old) (F.asked files.old) (F.read_faults files.old) (F.write_faults files.old))
+        (store_seen (F.told files.new) (F.asked files.new) (F.read_faults files.new) (F.write_faults files.new))
+        (streams_seen (I.rest input.old) (O.written out.old) (E.written err.old) (I.faults input.old) (O.faults out.old) (E.faults err.old))
+        (streams_seen (I.rest input.new) (O.written out.new) (E.written err.new) (I.faults input.new) (O.faults out.new) (E.faults err.new))
+        result }
+    // Where the words are `body FILE -o OUT` and the status is 0, the file that was written does what the body does.
+    ensures body { (file out : ℕ) → command_of words.now ≡ Ok (Command.Body file out) → result ≡ 0
+        → HasWritten (word_at words.now file) (word_at words.now out) (F.told files.old) (F.told files.new) }
+{
+    let outcome = perform(alloc, words, files, input, out, err);
+    let _ = report(err, words, &outcome);
+    outcome.status()
+}
