@@ -1,5 +1,5 @@
 -- What the words of `specs/Integers.antt` say of one another, at any width.
-use Rattle.std.proofs.Common.{◌≡◌, ◌∙◌, sym, ap, subst, refl, ℕ, suc, ◌+◌, ◌-◌, ◌*◌, ◌/◌, ◌%◌, ◌^◌, ◌<◌, ◌≤◌, ℤ, pos, negsuc, neg_ℤ, ◌+ℤ◌, ◌-ℤ◌, ◌*ℤ◌, ◌≤ℤ◌, ◌<ℤ◌, int_le, unsigned_abs, FitsSigned, Bool, true, false, ◌&&◌, IsTrue, arith}
+use Rattle.std.proofs.Common.{Option, Some, None, IfSome, if◌then◌else◌, ◌≡◌, ◌∙◌, sym, ap, subst, refl, ℕ, suc, ◌+◌, ◌-◌, ◌*◌, ◌/◌, ◌%◌, ◌^◌, ◌<◌, ◌≤◌, ℤ, pos, negsuc, neg_ℤ, ◌+ℤ◌, ◌-ℤ◌, ◌*ℤ◌, ◌≤ℤ◌, ◌<ℤ◌, int_le, unsigned_abs, FitsSigned, Bool, true, false, ◌&&◌, IsTrue, arith}
 use Rattle.std.proofs.lemmas.Int.{ints, to_z-of_z, of_z-to_z, int_wrap_fits, SFits-int_wrap, int_wrap-add_right}
 use Rattle.std.proofs.lemmas.Bool.{and_parts, and_from, false≢true, le-leb}
 use Rattle.std.specs.Int.{Width, w8, w16, w32, w64, w128, int_wrap, int_rem_euclid, cast_signed, cast_unsigned}
@@ -7,7 +7,9 @@ use mir.Val.{bits, hbits}
 use mir.ValLaws.{of_z_fits}
 use lib.Pow.{pow_pos}
 use native.Mathlib.Nat.{mod-eq_of_lt, mod-lt, div-add-mod'}
-use Rattle.num_core.specs.Integers.{least, greatest, lies_in, wrapped, reading}
+use Rattle.num_core.specs.Integers.{least, greatest, lies_in, wrapped, reading, is_signed, width, number, in_range, held, is_signed_type, width_of_type, kind_of_type, in_range_of_type, checked_to_type}
+use Rattle.num_core.specs.declared.kind.Narrow.{Narrow}
+use Rattle.num_core.specs.declared.kind.Narrow.TheVariants as Narrow
 
 pub half : (w : Width) → 2 ^ bits w ≡ 2 ^ hbits w + 2 ^ hbits w
 half w8 = refl
@@ -85,3 +87,46 @@ int_wrap-reading false w a f = ap (cast_signed w) (mod-eq_of_lt (of_z_fits w a f
 pub reading_lies : (signed : Bool) (w : Width) (a : ℤ) → FitsSigned w a → IsTrue (lies_in signed w (reading signed w a))
 reading_lies true w a f = lies_from_fits w a f
 reading_lies false w a f = lies_from_below w (cast_unsigned w a) (of_z_fits w a f).fits
+
+-- ---- what a call that refuses answers
+
+pub checked-number : (signed : Bool) (w : Width) (z : ℤ) → IfSome (if lies_in signed w z then Some (int_wrap w z) else None) (λ r. reading signed w r ≡ z)
+checked-number signed w z = by (lies_in signed w z) refl
+  where
+    by : (t : Bool) → lies_in signed w z ≡ t → IfSome (if t then Some (int_wrap w z) else None) (λ r. reading signed w r ≡ z)
+    by true e = reading-inside signed w z e
+    by false e = tt
+
+pub checked_fits : (t : Bool) (w : Width) (z : ℤ) → IfSome (if t then Some (int_wrap w z) else None) (λ r. FitsSigned w r)
+checked_fits true w z = SFits-int_wrap w z
+checked_fits false w z = tt
+
+-- ---- the types that a conversion names
+
+-- a number of the type is one of the kind in which it is held
+pub in_range-kind_of_type : (to : Narrow) (z : ℤ) → IsTrue (in_range_of_type to z) → IsTrue (in_range (kind_of_type to) z)
+in_range-kind_of_type to z h = by to (and_parts (int_le (least (is_signed_type to) (width_of_type to)) z) (int_le z (greatest (is_signed_type to) (width_of_type to))) h)
+  where
+    narrower : (low high low' high' : ℤ) → low' ≤ℤ low → high ≤ℤ high' → (IsTrue (int_le low z)) × (IsTrue (int_le z high)) → IsTrue (int_le low' z && int_le z high')
+    narrower low high low' high' l m b =
+        let x = b.0 in
+        let y = b.1 in
+        let p : true ≡ int_le low' z = omega (arith, ints) in
+        let q : true ≡ int_le z high' = omega (arith, ints) in
+        and_from (int_le low' z) (int_le z high') (sym p) (sym q)
+    by : (to : Narrow) → (IsTrue (int_le (least (is_signed_type to) (width_of_type to)) z)) × (IsTrue (int_le z (greatest (is_signed_type to) (width_of_type to)))) → IsTrue (in_range (kind_of_type to) z)
+    by Narrow.I1 b = narrower (least true w8) (greatest true w8) (least true w32) (greatest true w32) (record { le = tt }) (record { le = tt }) b
+    by Narrow.U1 b = narrower (least false w8) (greatest false w8) (least false w32) (greatest false w32) (record { le = tt }) (record { le = tt }) b
+    by Narrow.I2 b = narrower (least true w16) (greatest true w16) (least true w32) (greatest true w32) (record { le = tt }) (record { le = tt }) b
+    by Narrow.U2 b = narrower (least false w16) (greatest false w16) (least false w32) (greatest false w32) (record { le = tt }) (record { le = tt }) b
+    by Narrow.I4 b = and_from (int_le (least true w32) z) (int_le z (greatest true w32)) b.0 b.1
+    by Narrow.U4 b = and_from (int_le (least false w32) z) (int_le z (greatest false w32)) b.0 b.1
+    by Narrow.I8 b = and_from (int_le (least true w64) z) (int_le z (greatest true w64)) b.0 b.1
+    by Narrow.U8 b = and_from (int_le (least false w64) z) (int_le z (greatest false w64)) b.0 b.1
+
+pub checked_to_type-number : (to : Narrow) (z : ℤ) → IfSome (checked_to_type to z) (λ r. number (kind_of_type to) r ≡ z)
+checked_to_type-number to z = by (in_range_of_type to z) refl
+  where
+    by : (t : Bool) → in_range_of_type to z ≡ t → IfSome (if t then Some (held (kind_of_type to) z) else None) (λ r. number (kind_of_type to) r ≡ z)
+    by true e = reading-inside (is_signed (kind_of_type to)) (width (kind_of_type to)) z (in_range-kind_of_type to z e)
+    by false e = tt

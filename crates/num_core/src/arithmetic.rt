@@ -31,12 +31,13 @@ impl Kind {
     }
 
     // The value that holds a whole number, wrapped.
-    fn holding(self, number: i128) -> i64
-        ensures { result ≡ held self number }
+    fn holding(self, whole: i128) -> i64
+        ensures value { result ≡ held self whole }
+        ensures of_kind { IsOfKind self result }
     {
         match self {
-            Kind::I4 | Kind::U4 => i64::from(wrap32(number)),
-            Kind::I8 | Kind::U8 => wrap64(number),
+            Kind::I4 | Kind::U4 => i64::from(wrap32(whole)),
+            Kind::I8 | Kind::U8 => wrap64(whole),
         }
     }
 
@@ -77,10 +78,12 @@ impl Kind {
     }
 
     // The value that holds a whole number, if the number is in the kind's range.
-    fn checked(self, number: i128) -> Option<i64>
-        ensures { result ≡ checked self number }
+    fn checked(self, whole: i128) -> Option<i64>
+        ensures value { result ≡ checked self whole }
+        ensures number { IfSome result (λ r. number self r ≡ whole) }
+        ensures of_kind { IfSome result (λ r. IsOfKind self r) }
     {
-        self.as_type().checked(number)
+        self.as_type().checked(whole)
     }
 
     // By how many bits a shift moves.
@@ -143,24 +146,26 @@ impl Narrow {
     }
 
     // The value that holds a whole number, if the number is in the type's range.
-    fn checked(self, number: i128) -> Option<i64>
-        ensures { result ≡ checked_to_type self number }
+    fn checked(self, whole: i128) -> Option<i64>
+        ensures value { result ≡ checked_to_type self whole }
+        ensures number { IfSome result (λ r. number (kind_of_type self) r ≡ whole) }
+        ensures of_kind { IfSome result (λ r. IsOfKind (kind_of_type self) r) }
     {
-        if self.least() <= number && number <= self.greatest() {
-            Some(self.kind().holding(number))
+        if self.least() <= whole && whole <= self.greatest() {
+            Some(self.kind().holding(whole))
         } else {
             None
         }
     }
 
     // The number of the type's range that is congruent to a number of at most 65 bits.
-    fn wrapping(self, number: i128) -> i128
-        requires low { neg_ℤ (pos (2 ^ 64)) ≤ℤ number }
-        requires high { number <ℤ pos (2 ^ 64) }
-        ensures { result ≡ wrapped_to_type self number }
+    fn wrapping(self, whole: i128) -> i128
+        requires low { neg_ℤ (pos (2 ^ 64)) ≤ℤ whole }
+        requires high { whole <ℤ pos (2 ^ 64) }
+        ensures { result ≡ wrapped_to_type self whole }
     {
         let least = self.least();
-        (number - least).rem_euclid(self.greatest() - least + 1) + least
+        (whole - least).rem_euclid(self.greatest() - least + 1) + least
     }
 
     // The whole number that a value of a kind stands for, read as this type is.

@@ -1,0 +1,45 @@
+-- The code computes at 128 bits, where a sum, a difference, a quotient and a remainder of numbers of 65 bits are exact.
+use Rattle.std.proofs.Common.{◌≡◌, ◌∙◌, ap, subst, sym, ℕ, ◌+◌, ◌-◌, ◌*◌, ◌^◌, ◌<◌, ◌≤◌, ◌≢◌, ℤ, pos, negsuc, neg_ℤ, ◌+ℤ◌, ◌-ℤ◌, ◌*ℤ◌, ◌≤ℤ◌, ◌<ℤ◌, FitsSigned, to_z, of_z, int_div, int_rem, unsigned_abs, arith}
+use Rattle.std.proofs.lemmas.Int.{ints, to_z-of_z, quot_is, rem_is}
+use Rattle.std.specs.Int.{w32, w64, w128, cast_unsigned}
+use mir.ValLaws.{of_z_fits}
+use Rattle.num_core.specs.declared.kind.Kind.{Kind}
+use Rattle.num_core.specs.declared.kind.Kind.TheVariants.{I4, U4, I8, U8}
+use Rattle.num_core.specs.Integers.{number, width}
+
+-- z has 65 bits with its sign
+pub record IsWide (z : ℤ) : Type 0 where
+  pub low : neg_ℤ (pos (2 ^ 64)) ≤ℤ z
+  pub high : z <ℤ pos (2 ^ 64)
+
+pub wide_fits : (z : ℤ) → IsWide z → FitsSigned w128 z
+wide_fits z h = let l = h.low in let r = h.high in omega (arith, ints)
+
+pub wide_number : (kind : Kind) (a : ℤ) → FitsSigned (width kind) a → IsWide (number kind a)
+wide_number I4 a f = record { low = omega (arith, ints); high = omega (arith, ints) }
+wide_number U4 a f = let h = (of_z_fits w32 a f).fits in record { low = omega (arith, ints); high = omega (arith, ints) }
+wide_number I8 a f = record { low = omega (arith, ints); high = omega (arith, ints) }
+wide_number U8 a f = let h = (of_z_fits w64 a f).fits in record { low = omega (arith, ints); high = omega (arith, ints) }
+
+module _ (kind : Kind) (a r : ℤ) (fits : FitsSigned (width kind) a) (range : FitsSigned w64 a) (is : r ≡ number kind (to_z w64 (of_z w64 a))) where
+  pub number_is : r ≡ number kind a
+  number_is = is ∙ ap (number kind) (to_z-of_z w64 a range)
+
+  pub number_fits : FitsSigned w128 r
+  number_fits = subst (FitsSigned w128) (sym number_is) (wide_fits (number kind a) (wide_number kind a fits))
+
+  pub read_number_is : to_z w128 (of_z w128 r) ≡ number kind a
+  read_number_is = to_z-of_z w128 r number_fits ∙ number_is
+
+module _ (x y p q : ℤ) (wide_x : IsWide x) (wide_y : IsWide y) (px : p ≡ x) (qy : q ≡ y) where
+  pub sum_is : to_z w128 (of_z w128 (p +ℤ q)) ≡ x +ℤ y
+  sum_is =
+      let xl = wide_x.low in let xh = wide_x.high in let yl = wide_y.low in let yh = wide_y.high in
+      let fits : FitsSigned w128 (x +ℤ y) = omega (arith, ints) in
+      (λ i. to_z w128 (of_z w128 (px i +ℤ qy i))) ∙ to_z-of_z w128 (x +ℤ y) fits
+
+  pub difference_is : to_z w128 (of_z w128 (p -ℤ q)) ≡ x -ℤ y
+  difference_is =
+      let xl = wide_x.low in let xh = wide_x.high in let yl = wide_y.low in let yh = wide_y.high in
+      let fits : FitsSigned w128 (x -ℤ y) = omega (arith, ints) in
+      (λ i. to_z w128 (of_z w128 (px i -ℤ qy i))) ∙ to_z-of_z w128 (x -ℤ y) fits
