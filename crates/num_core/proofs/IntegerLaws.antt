@@ -1,13 +1,14 @@
 -- What the words of `specs/Integers.antt` say of one another, at any width.
 use Rattle.std.proofs.Common.{Option, Some, None, IfSome, if◌then◌else◌, ◌≡◌, ◌∙◌, sym, ap, subst, refl, ℕ, suc, ◌+◌, ◌-◌, ◌*◌, ◌/◌, ◌%◌, ◌^◌, ◌<◌, ◌≤◌, ℤ, pos, negsuc, neg_ℤ, ◌+ℤ◌, ◌-ℤ◌, ◌*ℤ◌, ◌≤ℤ◌, ◌<ℤ◌, int_le, unsigned_abs, FitsSigned, Bool, true, false, ◌&&◌, IsTrue, arith}
 use Rattle.std.proofs.lemmas.Int.{ints, to_z-of_z, of_z-to_z, int_wrap_fits, SFits-int_wrap, int_wrap-add_right}
-use Rattle.std.proofs.lemmas.Bool.{and_parts, and_from, false≢true, le-leb}
+use Rattle.std.proofs.lemmas.Bool.{ltb-true, ltb-false, and_parts, and_from, false≢true, le-leb}
 use Rattle.std.specs.Int.{Width, w8, w16, w32, w64, w128, int_wrap, int_rem_euclid, cast_signed, cast_unsigned}
-use mir.Val.{bits, hbits}
+use mir.Val.{bits, hbits, sel}
+use lib.Dec.{ltb}
 use mir.ValLaws.{of_z_fits}
 use lib.Pow.{pow_pos}
 use native.Mathlib.Nat.{mod-eq_of_lt, mod-lt, div-add-mod'}
-use Rattle.num_core.specs.Integers.{least, greatest, lies_in, wrapped, reading, is_signed, width, number, in_range, held, is_signed_type, width_of_type, kind_of_type, in_range_of_type, checked_to_type}
+use Rattle.num_core.specs.Integers.{modulus, least, greatest, lies_in, wrapped, reading, is_signed, width, number, in_range, held, is_signed_type, width_of_type, kind_of_type, in_range_of_type, wrapped_to_type, checked_to_type}
 use Rattle.num_core.specs.declared.kind.Narrow.{Narrow}
 use Rattle.num_core.specs.declared.kind.Narrow.TheVariants as Narrow
 
@@ -130,3 +131,40 @@ checked_to_type-number to z = by (in_range_of_type to z) refl
     by : (t : Bool) → in_range_of_type to z ≡ t → IfSome (if t then Some (held (kind_of_type to) z) else None) (λ r. number (kind_of_type to) r ≡ z)
     by true e = reading-inside (is_signed (kind_of_type to)) (width (kind_of_type to)) z (in_range-kind_of_type to z e)
     by false e = tt
+
+-- ---- how the code wraps: what is left of z is the number itself, or lies the modulus above it
+
+of_rest : (w : Width) (n : ℕ) → n < 2 ^ bits w → (t : Bool) → ltb n (2 ^ hbits w) ≡ t → (n < 2 ^ hbits w → sel t (pos n) (negsuc (2 ^ bits w - suc n)) ≡ pos n) × (2 ^ hbits w ≤ n → sel t (pos n) (negsuc (2 ^ bits w - suc n)) ≡ pos n -ℤ pos (2 ^ bits w))
+of_rest w n h true e = let below = ltb-true n (2 ^ hbits w) e in (λ l. refl, λ l. absurd (omega arith))
+of_rest w n h false e = let above = ltb-false n (2 ^ hbits w) e in (λ l. absurd (omega arith), λ l. omega (arith, ints))
+
+pub rest_inside : (signed : Bool) (w : Width) (z r : ℤ) → r ≡ int_rem_euclid z (modulus w) → r ≤ℤ greatest signed w → r ≡ wrapped signed w z
+unfolding int_wrap
+rest_inside true w z r e h =
+    let n = unsigned_abs (int_rem_euclid z (modulus w)) in
+    let is : r ≡ pos n = e ∙ sym (rest_is_natural z (modulus w)) in
+    let low : pos n ≤ℤ greatest true w = subst (λ (x : ℤ). x ≤ℤ greatest true w) is h in
+    let small : n < 2 ^ hbits w = omega (arith, ints, pow_pos (hbits w)) in
+    is ∙ sym ((of_rest w n (rest_below w z) (ltb n (2 ^ hbits w)) refl).0 small)
+rest_inside false w z r e h = e
+
+pub rest_above : (signed : Bool) (w : Width) (z r : ℤ) → r ≡ int_rem_euclid z (modulus w) → greatest signed w <ℤ r → r -ℤ modulus w ≡ wrapped signed w z
+unfolding int_wrap
+rest_above true w z r e h =
+    let n = unsigned_abs (int_rem_euclid z (modulus w)) in
+    let is : r ≡ pos n = e ∙ sym (rest_is_natural z (modulus w)) in
+    let high : greatest true w <ℤ pos n = subst (λ (x : ℤ). greatest true w <ℤ x) is h in
+    let large : 2 ^ hbits w ≤ n = omega (arith, ints, pow_pos (hbits w)) in
+    ap (λ x. x -ℤ modulus w) is ∙ sym ((of_rest w n (rest_below w z) (ltb n (2 ^ hbits w)) refl).1 large)
+rest_above false w z r e h =
+    let n = unsigned_abs (int_rem_euclid z (modulus w)) in
+    let is : r ≡ pos n = e ∙ sym (rest_is_natural z (modulus w)) in
+    let high : greatest false w <ℤ pos n = subst (λ (x : ℤ). greatest false w <ℤ x) is h in
+    absurd (omega (arith, ints, rest_below w z))
+
+-- what a conversion leaves is read again as the number that it wrapped
+pub number-wrapped_to_type : (to : Narrow) (z : ℤ) → number (kind_of_type to) (held (kind_of_type to) (wrapped_to_type to z)) ≡ wrapped_to_type to z
+number-wrapped_to_type to z =
+    let kind = kind_of_type to in
+    let inside = wrapped_lies (is_signed_type to) (width_of_type to) z in
+    reading-inside (is_signed kind) (width kind) (wrapped_to_type to z) (in_range-kind_of_type to (wrapped_to_type to z) inside)

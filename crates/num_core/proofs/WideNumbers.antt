@@ -1,11 +1,12 @@
 -- The code computes at 128 bits, where a sum, a difference, a quotient and a remainder of numbers of 65 bits are exact.
-use Rattle.std.proofs.Common.{◌≡◌, ◌∙◌, ap, subst, sym, ℕ, ◌+◌, ◌-◌, ◌*◌, ◌^◌, ◌<◌, ◌≤◌, ◌≢◌, ℤ, pos, negsuc, neg_ℤ, ◌+ℤ◌, ◌-ℤ◌, ◌*ℤ◌, ◌≤ℤ◌, ◌<ℤ◌, FitsSigned, to_z, of_z, int_div, int_rem, unsigned_abs, arith}
+use Rattle.std.proofs.Common.{refl, Bool, true, false, IsTrue, int_le, Some, None, if◌then◌else◌, ◌≡◌, ◌∙◌, ap, subst, sym, ℕ, ◌+◌, ◌-◌, ◌*◌, ◌^◌, ◌<◌, ◌≤◌, ◌≢◌, ℤ, pos, negsuc, neg_ℤ, ◌+ℤ◌, ◌-ℤ◌, ◌*ℤ◌, ◌≤ℤ◌, ◌<ℤ◌, FitsSigned, to_z, of_z, int_div, int_rem, unsigned_abs, arith}
 use Rattle.std.proofs.lemmas.Int.{ints, to_z-of_z, quot_is, rem_is}
 use Rattle.std.specs.Int.{w32, w64, w128, cast_unsigned}
 use mir.ValLaws.{of_z_fits}
 use Rattle.num_core.specs.declared.kind.Kind.{Kind}
 use Rattle.num_core.specs.declared.kind.Kind.TheVariants.{I4, U4, I8, U8}
-use Rattle.num_core.specs.Integers.{number, width}
+use Rattle.std.proofs.lemmas.Bool.{and_parts}
+use Rattle.num_core.specs.Integers.{number, width, is_signed, least, greatest, in_range, held, checked}
 
 -- z has 65 bits with its sign
 pub record IsWide (z : ℤ) : Type 0 where
@@ -43,3 +44,20 @@ module _ (x y p q : ℤ) (wide_x : IsWide x) (wide_y : IsWide y) (px : p ≡ x) 
       let xl = wide_x.low in let xh = wide_x.high in let yl = wide_y.low in let yh = wide_y.high in
       let fits : FitsSigned w128 (x -ℤ y) = omega (arith, ints) in
       (λ i. to_z w128 (of_z w128 (px i -ℤ qy i))) ∙ to_z-of_z w128 (x -ℤ y) fits
+
+-- a number of a kind fits, so a product that does not fit is out of range
+pub in_range_fits : (kind : Kind) (z : ℤ) → IsTrue (in_range kind z) → FitsSigned w128 z
+in_range_fits kind z h = by kind (and_parts (int_le (least (is_signed kind) (width kind)) z) (int_le z (greatest (is_signed kind) (width kind))) h)
+  where
+    by : (kind : Kind) → (IsTrue (int_le (least (is_signed kind) (width kind)) z)) × (IsTrue (int_le z (greatest (is_signed kind) (width kind)))) → FitsSigned w128 z
+    by I4 b = let l = b.0 in let r = b.1 in omega (arith, ints)
+    by U4 b = let l = b.0 in let r = b.1 in omega (arith, ints)
+    by I8 b = let l = b.0 in let r = b.1 in omega (arith, ints)
+    by U8 b = let l = b.0 in let r = b.1 in omega (arith, ints)
+
+pub refused : (kind : Kind) (z : ℤ) → ¬ (FitsSigned w128 z) → None ≡ checked kind z
+refused kind z not_fits = by (in_range kind z) refl
+  where
+    by : (t : Bool) → in_range kind z ≡ t → None ≡ (if t then Some (held kind z) else None)
+    by true e = absurd (not_fits (in_range_fits kind z e))
+    by false e = refl

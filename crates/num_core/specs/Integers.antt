@@ -26,10 +26,13 @@ greatest false w = pos (2 ^ bits w - 1)
 abbrev pub lies_in : Bool → Width → ℤ → Bool
 lies_in signed w z = int_le (least signed w) z && int_le z (greatest signed w)
 
+abbrev pub modulus : Width → ℤ
+modulus w = pos (2 ^ bits w)
+
 -- the number of the range that is congruent to z
 abbrev pub wrapped : Bool → Width → ℤ → ℤ
 wrapped true w z = int_wrap w z
-wrapped false w z = int_rem_euclid z (pos (2 ^ bits w))
+wrapped false w z = int_rem_euclid z (modulus w)
 
 -- the number that the bits of a stand for
 abbrev pub reading : Bool → Width → ℤ → ℤ

@@ -1,6 +1,6 @@
 ghost use Rattle.std.specs.Prelude.{◌≡◌, true, false, ◌^◌, ◌<◌, neg_ℤ, ◌≤ℤ◌, ◌<ℤ◌, ◌+ℤ◌, ◌-ℤ◌, ◌*ℤ◌, pos, negsuc, int_div, int_rem, IfOk, IfSome, IsErrOf, ◌↔◌, IsTrue, Option};
 ghost use Rattle.num_core.specs.declared.arithmetic.DivFault.TheVariants as DivFault;
-ghost use Rattle.num_core.specs.Integers.{IsOfKind, number, held, in_range, checked, least, greatest, is_signed, width, is_signed_type, width_of_type, kind_of_type, reading, in_range_of_type, wrapped_to_type, converted, checked_to_type, IsLeastByMinusOne, shift_amount, shifted};
+ghost use Rattle.num_core.specs.Integers.{IsOfKind, number, held, in_range, checked, least, greatest, is_signed, width, is_signed_type, width_of_type, kind_of_type, reading, in_range_of_type, modulus, wrapped_to_type, converted, checked_to_type, IsLeastByMinusOne, shift_amount, shifted};
 
 use crate::int::{wrap32, wrap64};
 use crate::kind::{Kind, Narrow, ShiftOp};
@@ -158,22 +158,34 @@ impl Narrow {
         }
     }
 
-    // The number of the type's range that is congruent to a number of at most 65 bits.
+    // 2 to the number of bits.
+    fn modulus(self) -> i128
+        ensures { result ≡ modulus (width_of_type self) }
+    {
+        match self {
+            Narrow::I1 | Narrow::U1 => 1 << 8,
+            Narrow::I2 | Narrow::U2 => 1 << 16,
+            Narrow::I4 | Narrow::U4 => 1 << 32,
+            Narrow::I8 | Narrow::U8 => 1 << 64,
+        }
+    }
+
+    // The number of the type's range that is congruent to a whole number.
     fn wrapping(self, whole: i128) -> i128
-        requires low { neg_ℤ (pos (2 ^ 64)) ≤ℤ whole }
-        requires high { whole <ℤ pos (2 ^ 64) }
         ensures { result ≡ wrapped_to_type self whole }
     {
-        let least = self.least();
-        (whole - least).rem_euclid(self.greatest() - least + 1) + least
+        let rest = whole.rem_euclid(self.modulus());
+        if rest <= self.greatest() {
+            rest
+        } else {
+            rest - self.modulus()
+        }
     }
 
     // The whole number that a value of a kind stands for, read as this type is.
     fn number_of(self, from: Kind, a: i64) -> i128
         requires { IsOfKind from a }
-        ensures value { result ≡ reading (is_signed_type self) (width from) a }
-        ensures low { neg_ℤ (pos (2 ^ 64)) ≤ℤ result }
-        ensures high { result <ℤ pos (2 ^ 64) }
+        ensures { result ≡ reading (is_signed_type self) (width from) a }
     {
         if self.is_signed() {
             from.signed().number_of(a)
@@ -241,10 +253,9 @@ pub fn div_rem(kind: Kind, a: i64, b: i64) -> Result<(i64, i64), DivFault>
     } else if divisor == -1 && dividend == kind.as_type().least() {
         Err(DivFault::Overflow)
     } else {
-        Ok((
-            kind.holding(dividend / divisor),
-            kind.holding(dividend % divisor),
-        ))
+        let quotient = dividend / divisor;
+        let remainder = dividend % divisor;
+        Ok((kind.holding(quotient), kind.holding(remainder)))
     }
 }
 
