@@ -1,8 +1,10 @@
 -- The code computes at 128 bits, where a sum, a difference, a quotient and a remainder of numbers of 65 bits are exact.
-use Rattle.std.proofs.Common.{refl, Bool, true, false, IsTrue, int_le, Some, None, if◌then◌else◌, ◌≡◌, ◌∙◌, ap, subst, sym, ℕ, ◌+◌, ◌-◌, ◌*◌, ◌^◌, ◌<◌, ◌≤◌, ◌≢◌, ℤ, pos, negsuc, neg_ℤ, ◌+ℤ◌, ◌-ℤ◌, ◌*ℤ◌, ◌≤ℤ◌, ◌<ℤ◌, FitsSigned, to_z, of_z, int_div, int_rem, unsigned_abs, arith}
-use Rattle.std.proofs.lemmas.Int.{ints, to_z-of_z, quot_is, rem_is}
+use Rattle.std.proofs.Common.{lit<, suc, ◌%◌, refl, Bool, true, false, IsTrue, int_le, Some, None, if◌then◌else◌, ◌≡◌, ◌∙◌, ap, subst, sym, ℕ, ◌+◌, ◌-◌, ◌*◌, ◌^◌, ◌<◌, ◌≤◌, ◌≢◌, ℤ, pos, negsuc, neg_ℤ, ◌+ℤ◌, ◌-ℤ◌, ◌*ℤ◌, ◌≤ℤ◌, ◌<ℤ◌, FitsSigned, to_z, of_z, int_div, int_rem, unsigned_abs, arith}
+use Rattle.std.proofs.lemmas.Int.{ints, to_z-of_z, to_z_pos}
 use Rattle.std.specs.Int.{w32, w64, w128, cast_unsigned}
 use mir.ValLaws.{of_z_fits}
+use native.Mathlib.Nat.{mod-eq_of_lt, mul-le-mul, pow-le-pow_right}
+use borrow.Author.Differences.{up, down}
 use Rattle.num_core.specs.declared.kind.Kind.{Kind}
 use Rattle.num_core.specs.declared.kind.Kind.TheVariants.{I4, U4, I8, U8}
 use Rattle.std.proofs.lemmas.Bool.{and_parts}
@@ -61,3 +63,33 @@ refused kind z not_fits = by (in_range kind z) refl
     by : (t : Bool) → in_range kind z ≡ t → None ≡ (if t then Some (held kind z) else None)
     by true e = absurd (not_fits (in_range_fits kind z e))
     by false e = refl
+
+-- a shift to the left by fewer than 64 bits fits, too
+module _ (x p : ℤ) (k : ℕ) (wide : IsWide x) (small : k < 64) (px : p ≡ x) where
+  power_le : 2 ^ k ≤ 2 ^ 63
+  power_le = let h : k ≤ 63 = omega arith in pow-le-pow_right (lit< tt) h
+
+  power_is : to_z w128 (1 * 2 ^ k % 2 ^ 128) ≡ pos (2 ^ k)
+  power_is =
+      let h = power_le in
+      let below : 1 * 2 ^ k < 2 ^ 128 = omega arith in
+      let half : 2 ^ k < 2 ^ 127 = omega arith in
+      ap (to_z w128) (mod-eq_of_lt below ∙ omega arith) ∙ to_z_pos w128 (2 ^ k) half
+
+  scaled_fits : (z : ℤ) → IsWide z → FitsSigned w128 (z *ℤ pos (2 ^ k))
+  scaled_fits z h =
+      let l = h.low in
+      let r = h.high in
+      let above : up z ≤ down z + (2 ^ 64 - 1) = omega (arith, ints) in
+      let below : down z ≤ up z + 2 ^ 64 = omega (arith, ints) in
+      by z above below
+    where
+      by : (z : ℤ) → up z ≤ down z + (2 ^ 64 - 1) → down z ≤ up z + 2 ^ 64 → FitsSigned w128 (z *ℤ pos (2 ^ k))
+      by (pos n) a b = let m : n ≤ 2 ^ 64 - 1 = omega arith in omega (arith, ints, mul-le-mul m power_le)
+      by (negsuc n) a b = let m : suc n ≤ 2 ^ 64 = omega arith in omega (arith, ints, mul-le-mul m power_le)
+
+  pub shifted_fits : FitsSigned w128 (p *ℤ to_z w128 (1 * 2 ^ k % 2 ^ 128))
+  shifted_fits = subst (FitsSigned w128) (λ i. sym px i *ℤ sym power_is i) (scaled_fits x wide)
+
+  pub shifted_is : to_z w128 (of_z w128 (p *ℤ to_z w128 (1 * 2 ^ k % 2 ^ 128))) ≡ x *ℤ pos (2 ^ k)
+  shifted_is = to_z-of_z w128 (p *ℤ to_z w128 (1 * 2 ^ k % 2 ^ 128)) shifted_fits ∙ (λ i. px i *ℤ power_is i)
