@@ -1,16 +1,17 @@
 -- What the words of `specs/Integers.antt` say of one another, at any width.
-use Rattle.std.proofs.Common.{Option, Some, None, IfSome, if◌then◌else◌, ◌≡◌, ◌∙◌, sym, ap, subst, refl, ℕ, suc, ◌+◌, ◌-◌, ◌*◌, ◌/◌, ◌%◌, ◌^◌, ◌<◌, ◌≤◌, ℤ, pos, negsuc, neg_ℤ, ◌+ℤ◌, ◌-ℤ◌, ◌*ℤ◌, ◌≤ℤ◌, ◌<ℤ◌, int_le, unsigned_abs, FitsSigned, Bool, true, false, ◌&&◌, IsTrue, arith}
-use Rattle.std.proofs.lemmas.Int.{ints, to_z-of_z, of_z-to_z, int_wrap_fits, SFits-int_wrap, int_wrap-add_right}
+use Rattle.std.proofs.Common.{Some, None, IfSome, if◌then◌else◌, ◌≡◌, ◌∙◌, sym, ap, subst, refl, ℕ, suc, ◌+◌, ◌-◌, ◌%◌, ◌^◌, ◌<◌, ◌≤◌, ℤ, pos, negsuc, ◌-ℤ◌, ◌≤ℤ◌, ◌<ℤ◌, int_le, unsigned_abs, FitsSigned, Bool, true, false, ◌&&◌, IsTrue, arith}
+use Rattle.std.proofs.lemmas.Int.{ints, to_z-of_z, of_z-to_z, int_wrap_fits, SFits-int_wrap}
 use Rattle.std.proofs.lemmas.Bool.{ltb-true, ltb-false, and_parts, and_from, false≢true, le-leb}
 use Rattle.std.specs.Int.{Width, w8, w16, w32, w64, w128, int_wrap, int_rem_euclid, cast_signed, cast_unsigned}
 use mir.Val.{bits, hbits, sel}
 use lib.Dec.{ltb}
 use mir.ValLaws.{of_z_fits}
 use lib.Pow.{pow_pos}
-use native.Mathlib.Nat.{mod-eq_of_lt, mod-lt, div-add-mod'}
+use native.Mathlib.Nat.{mod-eq_of_lt, mod-lt}
 use Rattle.num_core.specs.Integers.{modulus, least, greatest, lies_in, wrapped, reading, is_signed, width, number, in_range, held, is_signed_type, width_of_type, kind_of_type, in_range_of_type, wrapped_to_type, checked_to_type}
+use Rattle.num_core.specs.declared.kind.Kind.{Kind}
+use Rattle.num_core.specs.declared.kind.Kind.TheVariants.{I4, U4, I8, U8}
 use Rattle.num_core.specs.declared.kind.Narrow.{Narrow}
-use Rattle.num_core.specs.declared.kind.Narrow.TheVariants as Narrow
 
 pub half : (w : Width) → 2 ^ bits w ≡ 2 ^ hbits w + 2 ^ hbits w
 half w8 = refl
@@ -115,6 +116,7 @@ in_range-kind_of_type to z h = by to (and_parts (int_le (least (is_signed_type t
         let p : true ≡ int_le low' z = omega (arith, ints) in
         let q : true ≡ int_le z high' = omega (arith, ints) in
         and_from (int_le low' z) (int_le z high') (sym p) (sym q)
+
     by : (to : Narrow) → (IsTrue (int_le (least (is_signed_type to) (width_of_type to)) z)) × (IsTrue (int_le z (greatest (is_signed_type to) (width_of_type to)))) → IsTrue (in_range (kind_of_type to) z)
     by Narrow.I1 b = narrower (least true w8) (greatest true w8) (least true w32) (greatest true w32) (record { le = tt }) (record { le = tt }) b
     by Narrow.U1 b = narrower (least false w8) (greatest false w8) (least false w32) (greatest false w32) (record { le = tt }) (record { le = tt }) b
@@ -168,3 +170,10 @@ number-wrapped_to_type to z =
     let kind = kind_of_type to in
     let inside = wrapped_lies (is_signed_type to) (width_of_type to) z in
     reading-inside (is_signed kind) (width kind) (wrapped_to_type to z) (in_range-kind_of_type to (wrapped_to_type to z) inside)
+
+-- 0 is read as 0
+pub number-zero : (kind : Kind) → number kind (pos 0) ≡ pos 0
+number-zero I4 = refl
+number-zero U4 = refl
+number-zero I8 = refl
+number-zero U8 = refl

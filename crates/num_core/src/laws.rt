@@ -6,5 +6,4 @@ ghost use Rattle.num_core.specs.Integers.{IsOfKind, InRange, number, held};
 /// A number in a kind's range is held as itself.
 pub fn number_of_held()
     ensures { (kind : Kind) (z : ℤ) → InRange kind z → number kind (held kind z) ≡ z }
-{
-}
+{}

@@ -1,5 +1,5 @@
 -- A product that fits 128 bits is exact, and one that does not is out of range.
-use Rattle.std.proofs.Common.{rules, ◌≡◌, ◌∙◌, ap, sym, subst, ℤ, ◌*ℤ◌, Option, Some, None, IfSome, SomeIff, FitsSigned, to_z, of_z}
+use Rattle.std.proofs.Common.{◌≡◌, ◌∙◌, ap, sym, subst, ℤ, ◌*ℤ◌, Option, IfSome, SomeIff, FitsSigned, to_z, of_z}
 use Rattle.std.proofs.lemmas.Int.{to_z-of_z}
 use Rattle.std.specs.Int.{w128}
 use Rattle.num_core.specs.Integers.{number, checked}

@@ -1,5 +1,5 @@
 -- The operation at 128 bits is exact.
-use Rattle.std.proofs.Common.{◌≡◌, ◌∙◌, ap, subst, ℤ, ◌+ℤ◌, ◌-ℤ◌, IfSome, to_z, of_z}
+use Rattle.std.proofs.Common.{◌≡◌, ◌∙◌, ap, subst, ℤ, ◌-ℤ◌, IfSome, to_z, of_z}
 use Rattle.std.specs.Int.{w128}
 use Rattle.num_core.specs.Integers.{number, checked}
 use Rattle.num_core.proofs.WideNumbers.{wide_number, read_number_is, difference_is}

@@ -1,8 +1,7 @@
 -- What a held number in range reads as.
-use Rattle.std.proofs.Common.{rules, ◌≡◌, ◌∙◌, ap, sym, subst, IsTrue, Option, Some, IfSome, FitsSigned, ℤ, to_z, of_z}
-use Rattle.std.specs.Int.{w64, w128}
-use Rattle.std.proofs.lemmas.Int.{to_z-of_z}
-use Rattle.num_core.specs.Integers.{IsOfKind, number, held, kind_of_type, in_range_of_type, checked_to_type, is_signed, width}
+use Rattle.std.proofs.Common.{rules, ◌≡◌, ◌∙◌, ap, IsTrue, to_z, of_z}
+use Rattle.std.specs.Int.{w64}
+use Rattle.num_core.specs.Integers.{number, held, kind_of_type, in_range_of_type, is_signed, width}
 use Rattle.num_core.proofs.IntegerLaws.{reading-inside, in_range-kind_of_type}
 use Rattle.num_core.proofs.kind.Narrow.checked.Goals as goal
 

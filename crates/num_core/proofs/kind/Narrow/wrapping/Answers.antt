@@ -2,7 +2,7 @@
 use Rattle.std.proofs.Common.{rules, arith, ◌≡◌, ◌∙◌, ap, subst, ℤ, ◌-ℤ◌, ◌≤ℤ◌, ◌<ℤ◌, FitsSigned, to_z, of_z}
 use Rattle.std.proofs.lemmas.Int.{ints, to_z-of_z}
 use Rattle.std.specs.Int.{w128, int_rem_euclid}
-use Rattle.num_core.specs.Integers.{is_signed_type, width_of_type, modulus, greatest}
+use Rattle.num_core.specs.Integers.{is_signed_type, width_of_type, modulus}
 use Rattle.num_core.proofs.IntegerLaws.{rest_inside, rest_above}
 use Rattle.num_core.proofs.kind.Narrow.wrapping.Goals as goal
 
