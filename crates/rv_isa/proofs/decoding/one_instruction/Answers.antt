@@ -1,0 +1,5 @@
+use Rattle.rv_isa.proofs.Rows.{one}
+use Rattle.rv_isa.proofs.decoding.one_instruction.Goals as goal
+
+pub returns : goal.returns
+returns c = one

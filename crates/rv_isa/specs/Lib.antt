@@ -1,0 +1,5 @@
+pub mod Operands
+pub mod Formats
+pub mod Instructions
+pub mod Parts
+pub mod Rows

@@ -1,0 +1,17 @@
+//! The instructions of RV64IM and their words: the RISC-V unprivileged manual, chapters "RV32I",
+//! "RV64I" and "M", without `fence` and without control and status registers.
+#![tactic(auto)]
+
+mod decoding;
+mod encoding;
+mod fields;
+mod ins;
+mod operands;
+
+pub use decoding::{Illegal, decode, one_instruction};
+pub use encoding::encode;
+pub use ins::Ins;
+pub use operands::{Immediate, Register, UpperImmediate};
+
+#[cfg(test)]
+mod tests;
