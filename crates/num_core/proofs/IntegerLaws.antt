@@ -1,5 +1,5 @@
 -- What the words of `specs/Integers.antt` say of one another, at any width.
-use Rattle.std.proofs.Common.{Some, None, IfSome, if◌then◌else◌, ◌≡◌, ◌∙◌, sym, ap, subst, refl, ℕ, suc, ◌+◌, ◌-◌, ◌%◌, ◌^◌, ◌<◌, ◌≤◌, ℤ, pos, negsuc, ◌-ℤ◌, ◌≤ℤ◌, ◌<ℤ◌, int_le, unsigned_abs, FitsSigned, Bool, true, false, ◌&&◌, IsTrue, arith}
+use Rattle.std.proofs.Common.{SomeIff, ◌↔◌, Option, Some, None, IfSome, if◌then◌else◌, ◌≡◌, ◌∙◌, sym, ap, subst, refl, ℕ, suc, ◌+◌, ◌-◌, ◌%◌, ◌^◌, ◌<◌, ◌≤◌, ℤ, pos, negsuc, ◌-ℤ◌, ◌≤ℤ◌, ◌<ℤ◌, int_le, unsigned_abs, FitsSigned, Bool, true, false, ◌&&◌, IsTrue, arith}
 use Rattle.std.proofs.lemmas.Int.{ints, to_z-of_z, of_z-to_z, int_wrap_fits, SFits-int_wrap}
 use Rattle.std.proofs.lemmas.Bool.{ltb-true, ltb-false, and_parts, and_from, false≢true, le-leb}
 use Rattle.std.specs.Int.{Width, w8, w16, w32, w64, w128, int_wrap, int_rem_euclid, cast_signed, cast_unsigned}
@@ -177,3 +177,21 @@ number-zero I4 = refl
 number-zero U4 = refl
 number-zero I8 = refl
 number-zero U8 = refl
+
+-- ---- the words as the reader has them
+
+pub lies-bounds : (signed : Bool) (w : Width) (z : ℤ) → IsTrue (lies_in signed w z) ↔ ((least signed w ≤ℤ z) × (z ≤ℤ greatest signed w))
+lies-bounds signed w z = (
+  λ h. let both = and_parts (int_le (least signed w) z) (int_le z (greatest signed w)) h in (omega (arith, ints, both.0), omega (arith, ints, both.1)),
+  λ b.
+      let low : true ≡ int_le (least signed w) z = omega (arith, ints, b.0) in
+      let high : true ≡ int_le z (greatest signed w) = omega (arith, ints, b.1) in
+      and_from (int_le (least signed w) z) (int_le z (greatest signed w)) (sym low) (sym high),
+)
+
+pub checked-cases : (signed : Bool) (w : Width) (z : ℤ) → SomeIff (if lies_in signed w z then Some (int_wrap w z) else None) (IsTrue (lies_in signed w z)) (int_wrap w z)
+checked-cases signed w z = by (lies_in signed w z) refl
+  where
+    by : (t : Bool) → lies_in signed w z ≡ t → SomeIff (if t then Some (int_wrap w z) else None) (lies_in signed w z ≡ true) (int_wrap w z)
+    by true e = (e, refl)
+    by false e = λ d. false≢true (sym e ∙ d)

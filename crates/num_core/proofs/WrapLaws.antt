@@ -1,5 +1,5 @@
 -- Wrapping at one width after another, and the bits of values that are held.
-use Rattle.std.proofs.Common.{refl, ap, sym, subst, ◌≡◌, ◌∙◌, ℕ, zero, suc, ◌+◌, ◌-◌, ◌*◌, ◌/◌, ◌%◌, ◌^◌, ◌<◌, ◌≤◌, ℤ, pos, negsuc, neg_ℤ, ◌+ℤ◌, ◌-ℤ◌, ◌*ℤ◌, int_lt, nat_lt, unsigned_abs, FitsSigned, Bool, true, false, arith}
+use Rattle.std.proofs.Common.{lit<, refl, ap, sym, subst, ◌≡◌, ◌∙◌, ℕ, zero, suc, ◌+◌, ◌-◌, ◌*◌, ◌/◌, ◌%◌, ◌^◌, ◌<◌, ◌≤◌, ℤ, pos, negsuc, neg_ℤ, ◌+ℤ◌, ◌-ℤ◌, ◌*ℤ◌, int_lt, nat_lt, unsigned_abs, FitsSigned, Bool, true, false, arith}
 use Rattle.std.proofs.lemmas.Int.{ints, to_z-of_z, of_z-to_z, to_z_pos, int_wrap_fits, SFits-int_wrap, int_wrap-add_left, int_wrap-add_right, int_wrap-sub_right, int_wrap-mul_left, int_wrap-mul_right}
 use Rattle.std.proofs.lemmas.Bool.{ltb-true, ltb-false, lt-ltb, le-ltb}
 use Rattle.std.specs.Int.{Width, w8, w16, w32, w64, w128, int_wrap, int_rem_euclid, int_div_euclid, int_shr, cast_signed, cast_unsigned}
@@ -10,8 +10,10 @@ use lib.Signed.{mag}
 use lib.IntN.{+ℤ_comm}
 use lib.Pow.{pow_pos, pow-add, low, mod-mod-pow}
 use native.Mathlib.Nat.{mod-eq_of_lt, mod-lt, div-add-mod', mul-mod_left, mul-le-mul_right}
-use Rattle.num_core.specs.Integers.{reading}
-use Rattle.num_core.proofs.IntegerLaws.{half, rest_below, unsigned-int_wrap}
+use Rattle.num_core.specs.Integers.{reading, shift_amount}
+use Rattle.num_core.specs.declared.kind.Kind.{Kind}
+use Rattle.num_core.specs.declared.kind.Kind.TheVariants.{I4, U4, I8, U8}
+use Rattle.num_core.proofs.IntegerLaws.{half, rest_below, unsigned-int_wrap, int_wrap-reading}
 
 -- ---- a multiple of the modulus is lost
 
@@ -64,7 +66,7 @@ pub int_wrap-cast_signed : (w v : Width) (n : ℕ) → bits w ≤ bits v → n <
 int_wrap-cast_signed w v n le h =
     let r = read_bits v n h in
     let far : cast_signed v n +ℤ pos ((r.0 * 2 ^ (bits v - bits w)) * 2 ^ bits w) ≡ pos n +ℤ pos (0 * 2 ^ bits w) =
-        ap (λ x. cast_signed v n +ℤ pos x) (sym (scale w v r.0 le)) ∙ r.1 ∙ omega (arith, ints) in
+    ap (λ x. cast_signed v n +ℤ pos x) (sym (scale w v r.0 le)) ∙ r.1 ∙ omega (arith, ints) in
     int_wrap-same w (cast_signed v n) (pos n) (r.0 * 2 ^ (bits v - bits w)) 0 far ∙ int_wrap-pos w n
 
 -- wrapping at a wider width first changes nothing
@@ -73,7 +75,7 @@ int_wrap-narrower w v z le =
     let n = unsigned_abs (int_rem_euclid z (pos (2 ^ bits v))) in
     let r = rest_more v z in
     let far : pos n +ℤ pos ((r.0 * 2 ^ (bits v - bits w)) * 2 ^ bits w) ≡ z +ℤ pos ((r.1 * 2 ^ (bits v - bits w)) * 2 ^ bits w) =
-        ap (λ x. pos n +ℤ pos x) (sym (scale w v r.0 le)) ∙ r.2 ∙ ap (λ x. z +ℤ pos x) (scale w v r.1 le) in
+    ap (λ x. pos n +ℤ pos x) (sym (scale w v r.0 le)) ∙ r.2 ∙ ap (λ x. z +ℤ pos x) (scale w v r.1 le) in
     ap (int_wrap w) (int_wrap-is v z) ∙ int_wrap-cast_signed w v n le (rest_below v z) ∙ sym (int_wrap-pos w n)
     ∙ int_wrap-same w (pos n) z (r.0 * 2 ^ (bits v - bits w)) (r.1 * 2 ^ (bits v - bits w)) far
 
@@ -147,3 +149,20 @@ ltb-cast_unsigned w v a b le f g =
 pub int_shr-is : (a : ℤ) (k : ℕ) → int_shr a k ≡ int_div_euclid a (pos (2 ^ k))
 int_shr-is (pos n) k = refl
 int_shr-is (negsuc n) k = refl
+
+-- ---- either reading of the operands gives the same wrapped result
+module _ (signed : Bool) (w : Width) (a b : ℤ) (f : FitsSigned w a) (g : FitsSigned w b) where
+  pub sum-reading : int_wrap w (reading signed w a +ℤ reading signed w b) ≡ int_wrap w (a +ℤ b)
+  sum-reading = sym (int_wrap-sum w (reading signed w a) (reading signed w b)) ∙ (λ i. int_wrap w (int_wrap-reading signed w a f i +ℤ int_wrap-reading signed w b g i))
+
+  pub difference-reading : int_wrap w (reading signed w a -ℤ reading signed w b) ≡ int_wrap w (a -ℤ b)
+  difference-reading = sym (int_wrap-difference w (reading signed w a) (reading signed w b)) ∙ (λ i. int_wrap w (int_wrap-reading signed w a f i -ℤ int_wrap-reading signed w b g i))
+
+  pub product-reading : int_wrap w (reading signed w a *ℤ reading signed w b) ≡ int_wrap w (a *ℤ b)
+  product-reading = sym (int_wrap-product w (reading signed w a) (reading signed w b)) ∙ (λ i. int_wrap w (int_wrap-reading signed w a f i *ℤ int_wrap-reading signed w b g i))
+
+pub shift_amount-lt : (kind : Kind) (amount : ℤ) → shift_amount kind amount < 64
+shift_amount-lt I4 amount = let h = mod-lt (cast_unsigned w64 amount) (lit< {m = 0} {n = 32} tt) in omega arith
+shift_amount-lt U4 amount = let h = mod-lt (cast_unsigned w64 amount) (lit< {m = 0} {n = 32} tt) in omega arith
+shift_amount-lt I8 amount = mod-lt (cast_unsigned w64 amount) (lit< tt)
+shift_amount-lt U8 amount = mod-lt (cast_unsigned w64 amount) (lit< tt)
