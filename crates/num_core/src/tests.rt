@@ -331,7 +331,7 @@ static SHIFTS_64: [(i64, i64, (i64, i64, i64)); 10] = [
     (i64::MAX, 64, (i64::MAX, i64::MAX, i64::MAX)),
 ];
 
-static CONVERSIONS_I4: [(i32, Converted); 8] = [
+const CONVERSIONS_I4: [(i32, Converted); 8] = [
     (
         -1,
         (
@@ -480,7 +480,7 @@ static CONVERSIONS_I4: [(i32, Converted); 8] = [
     ),
 ];
 
-static CONVERSIONS_U4: [(i32, Converted); 8] = [
+const CONVERSIONS_U4: [(i32, Converted); 8] = [
     (
         -1,
         (
@@ -629,7 +629,7 @@ static CONVERSIONS_U4: [(i32, Converted); 8] = [
     ),
 ];
 
-static CONVERSIONS_I8: [(i64, Converted); 7] = [
+const CONVERSIONS_I8: [(i64, Converted); 7] = [
     (
         -1,
         (
@@ -753,7 +753,7 @@ static CONVERSIONS_I8: [(i64, Converted); 7] = [
     ),
 ];
 
-static CONVERSIONS_U8: [(i64, Converted); 7] = [
+const CONVERSIONS_U8: [(i64, Converted); 7] = [
     (
         -1,
         (
@@ -893,10 +893,14 @@ fn every_shift(rt: HostRuntime) {
 
 #[test]
 fn every_conversion(rt: HostRuntime) {
-    conversions_32(&rt, Kind::I4, &CONVERSIONS_I4);
-    conversions_32(&rt, Kind::U4, &CONVERSIONS_U4);
-    conversions_64(&rt, Kind::I8, &CONVERSIONS_I8);
-    conversions_64(&rt, Kind::U8, &CONVERSIONS_U8);
+    let rows = CONVERSIONS_I4;
+    conversions_32(&rt, Kind::I4, &rows);
+    let rows = CONVERSIONS_U4;
+    conversions_32(&rt, Kind::U4, &rows);
+    let rows = CONVERSIONS_I8;
+    conversions_64(&rt, Kind::I8, &rows);
+    let rows = CONVERSIONS_U8;
+    conversions_64(&rt, Kind::U8, &rows);
 }
 
 #[test]
