@@ -1,5 +1,5 @@
 -- What the words of `specs/Integers.antt` say of one another, at any width.
-use Rattle.std.proofs.Common.{SomeIff, ◌↔◌, Option, Some, None, IfSome, if◌then◌else◌, ◌≡◌, ◌∙◌, sym, ap, subst, refl, ℕ, suc, ◌+◌, ◌-◌, ◌%◌, ◌^◌, ◌<◌, ◌≤◌, ℤ, pos, negsuc, ◌-ℤ◌, ◌≤ℤ◌, ◌<ℤ◌, int_le, unsigned_abs, FitsSigned, Bool, true, false, ◌&&◌, IsTrue, arith}
+use Rattle.std.proofs.Common.{SomeIff, ◌↔◌, Some, None, IfSome, if◌then◌else◌, ◌≡◌, ◌∙◌, sym, ap, subst, refl, ℕ, suc, ◌+◌, ◌-◌, ◌%◌, ◌^◌, ◌<◌, ◌≤◌, ℤ, pos, negsuc, ◌-ℤ◌, ◌≤ℤ◌, ◌<ℤ◌, int_le, unsigned_abs, FitsSigned, Bool, true, false, ◌&&◌, IsTrue, arith}
 use Rattle.std.proofs.lemmas.Int.{ints, to_z-of_z, of_z-to_z, int_wrap_fits, SFits-int_wrap}
 use Rattle.std.proofs.lemmas.Bool.{ltb-true, ltb-false, and_parts, and_from, false≢true, le-leb}
 use Rattle.std.specs.Int.{Width, w8, w16, w32, w64, w128, int_wrap, int_rem_euclid, cast_signed, cast_unsigned}

@@ -1,15 +1,14 @@
 -- Wrapping at one width after another, and the bits of values that are held.
-use Rattle.std.proofs.Common.{lit<, refl, ap, sym, subst, ◌≡◌, ◌∙◌, ℕ, zero, suc, ◌+◌, ◌-◌, ◌*◌, ◌/◌, ◌%◌, ◌^◌, ◌<◌, ◌≤◌, ℤ, pos, negsuc, neg_ℤ, ◌+ℤ◌, ◌-ℤ◌, ◌*ℤ◌, int_lt, nat_lt, unsigned_abs, FitsSigned, Bool, true, false, arith}
+use Rattle.std.proofs.Common.{lit<, refl, ap, sym, ◌≡◌, ◌∙◌, ℕ, suc, ◌+◌, ◌-◌, ◌*◌, ◌/◌, ◌%◌, ◌^◌, ◌<◌, ◌≤◌, ℤ, pos, negsuc, neg_ℤ, ◌+ℤ◌, ◌-ℤ◌, ◌*ℤ◌, unsigned_abs, FitsSigned, Bool, true, false, arith}
 use Rattle.std.proofs.lemmas.Int.{ints, to_z-of_z, of_z-to_z, to_z_pos, int_wrap_fits, SFits-int_wrap, int_wrap-add_left, int_wrap-add_right, int_wrap-sub_right, int_wrap-mul_left, int_wrap-mul_right}
 use Rattle.std.proofs.lemmas.Bool.{ltb-true, ltb-false, lt-ltb, le-ltb}
-use Rattle.std.specs.Int.{Width, w8, w16, w32, w64, w128, int_wrap, int_rem_euclid, int_div_euclid, int_shr, cast_signed, cast_unsigned}
+use Rattle.std.specs.Int.{Width, w64, int_wrap, int_rem_euclid, int_div_euclid, int_shr, cast_signed, cast_unsigned}
 use mir.Val.{bits, hbits, sel}
 use mir.ValLaws.{of_z_fits}
 use lib.Dec.{ltb}
 use lib.Signed.{mag}
-use lib.IntN.{+ℤ_comm}
-use lib.Pow.{pow_pos, pow-add, low, mod-mod-pow}
-use native.Mathlib.Nat.{mod-eq_of_lt, mod-lt, div-add-mod', mul-mod_left, mul-le-mul_right}
+use lib.Pow.{pow_pos, pow-add}
+use native.Mathlib.Nat.{mod-lt, div-add-mod', mul-mod_left, mul-le-mul_right}
 use Rattle.num_core.specs.Integers.{reading, shift_amount}
 use Rattle.num_core.specs.declared.kind.Kind.{Kind}
 use Rattle.num_core.specs.declared.kind.Kind.TheVariants.{I4, U4, I8, U8}

@@ -1,7 +1,7 @@
 //! Laws of the integers, for the proofs of the crates above. Each function does nothing, and ensures
 //! its laws of all values.
 ghost use Rattle.std.specs.Prelude.{ℤ, ℕ, ◌≡◌, ◌+ℤ◌, ◌-ℤ◌, ◌*ℤ◌, ◌≤ℤ◌, ◌%◌, ◌^◌, ◌<◌, ◌↔◌, pos, int_lt, int_div, int_rem, FitsSigned, SomeIff, bit_and, IsTrue};
-ghost use Rattle.std.specs.Int.{Width, w32, w64, int_wrap, int_rem_euclid, cast_signed, cast_unsigned, int_shr};
+ghost use Rattle.std.specs.Int.{Width, w32, w64, int_wrap, int_rem_euclid, cast_signed, cast_unsigned, int_shr, int_bit_not, int_bit_and, int_bit_or, int_bit_xor};
 ghost use Rattle.num_core.specs.declared.kind.Kind.{Kind};
 ghost use Rattle.num_core.specs.declared.kind.Kind.TheVariants.{I4, U4, I8, U8};
 ghost use Rattle.num_core.specs.declared.kind.Narrow.{Narrow};
@@ -81,6 +81,17 @@ pub fn bits()
     // bits
     ensures word_of_register { (n : ℕ) → n < 2 ^ 64 →
         cast_signed w32 (n % 2 ^ 32) ≡ int_wrap w32 (cast_signed w64 n) }
+    // `and` of 64 bits, on values of 32 bits with their sign extended, is that of 32 bits
+    ensures and_of_word { (a b : ℤ) → FitsSigned w32 a → FitsSigned w32 b →
+        int_bit_and w64 a b ≡ int_bit_and w32 a b }
+    // `or` of 64 bits, on values of 32 bits with their sign extended, is that of 32 bits
+    ensures or_of_word { (a b : ℤ) → FitsSigned w32 a → FitsSigned w32 b →
+        int_bit_or w64 a b ≡ int_bit_or w32 a b }
+    // `xor` of 64 bits, on values of 32 bits with their sign extended, is that of 32 bits
+    ensures xor_of_word { (a b : ℤ) → FitsSigned w32 a → FitsSigned w32 b →
+        int_bit_xor w64 a b ≡ int_bit_xor w32 a b }
+    // `not` of 64 bits, on a value of 32 bits with its sign extended, is that of 32 bits
+    ensures not_of_word { (a : ℤ) → FitsSigned w32 a → int_bit_not w64 a ≡ int_bit_not w32 a }
 {}
 
 /// Which quotients and remainders are in the range.
