@@ -13,10 +13,12 @@ use Rattle.num_core.specs.declared.kind.ShiftOp.TheVariants.{Left, Right, RightU
 
 -- ---- a range of whole numbers, with a sign or without one, in a number of bits
 
+-- the least number of the range
 abbrev pub least : Bool → Width → ℤ
 least true w = negsuc (2 ^ hbits w - 1)
 least false w = pos 0
 
+-- the greatest number of the range
 abbrev pub greatest : Bool → Width → ℤ
 greatest true w = pos (2 ^ hbits w - 1)
 greatest false w = pos (2 ^ bits w - 1)
@@ -25,6 +27,7 @@ greatest false w = pos (2 ^ bits w - 1)
 abbrev pub lies_in : Bool → Width → ℤ → Bool
 lies_in signed w z = int_le (least signed w) z && int_le z (greatest signed w)
 
+-- how many numbers the range has
 abbrev pub modulus : Width → ℤ
 modulus w = pos (2 ^ bits w)
 
@@ -40,12 +43,14 @@ reading false w a = pos (cast_unsigned w a)
 
 -- ---- the kinds of a stack's numbers
 
+-- whether the kind reads its values with a sign
 abbrev pub is_signed : Kind → Bool
 is_signed I4 = true
 is_signed U4 = false
 is_signed I8 = true
 is_signed U8 = false
 
+-- in how many bits the kind holds its values
 abbrev pub width : Kind → Width
 width I4 = w32
 width U4 = w32
@@ -56,18 +61,22 @@ width U8 = w64
 abbrev pub IsOfKind : Kind → ℤ → Type 0
 IsOfKind kind a = FitsSigned (width kind) a
 
+-- the whole number that a value of the kind stands for
 abbrev pub number : Kind → ℤ → ℤ
 number kind a = reading (is_signed kind) (width kind) a
 
+-- the whole numbers that the kind has values for
 abbrev pub in_range : Kind → ℤ → Bool
 in_range kind z = lies_in (is_signed kind) (width kind) z
 
 abbrev pub InRange : Kind → ℤ → Type 0
 InRange kind z = IsTrue (in_range kind z)
 
+-- the value of the kind that holds a whole number, wrapped
 abbrev pub held : Kind → ℤ → ℤ
 held kind z = int_wrap (width kind) z
 
+-- the value that holds a whole number, or none where the number is out of range
 abbrev pub checked : Kind → ℤ → Option ℤ
 checked kind z = if in_range kind z then Some (held kind z) else None
 
@@ -89,6 +98,7 @@ shifted RightUnsigned kind a k = held kind (int_div_euclid (reading false (width
 
 -- ---- conversions
 
+-- whether the numbers of the type have a sign
 abbrev pub is_signed_type : Narrow → Bool
 is_signed_type Narrow.I1 = true
 is_signed_type Narrow.U1 = false
@@ -99,6 +109,7 @@ is_signed_type Narrow.U4 = false
 is_signed_type Narrow.I8 = true
 is_signed_type Narrow.U8 = false
 
+-- how many bits the type has
 abbrev pub width_of_type : Narrow → Width
 width_of_type Narrow.I1 = w8
 width_of_type Narrow.U1 = w8
@@ -120,9 +131,11 @@ kind_of_type Narrow.U4 = U4
 kind_of_type Narrow.I8 = I8
 kind_of_type Narrow.U8 = U8
 
+-- the numbers of the type
 abbrev pub in_range_of_type : Narrow → ℤ → Bool
 in_range_of_type to z = lies_in (is_signed_type to) (width_of_type to) z
 
+-- the number of the type that is congruent to z
 abbrev pub wrapped_to_type : Narrow → ℤ → ℤ
 wrapped_to_type to z = wrapped (is_signed_type to) (width_of_type to) z
 
@@ -130,5 +143,6 @@ wrapped_to_type to z = wrapped (is_signed_type to) (width_of_type to) z
 abbrev pub converted : Narrow → Kind → ℤ → ℤ
 converted to from a = wrapped_to_type to (reading (is_signed_type to) (width from) a)
 
+-- the value that holds a number of the type, or none where the number is out of its range
 abbrev pub checked_to_type : Narrow → ℤ → Option ℤ
 checked_to_type to z = if in_range_of_type to z then Some (held (kind_of_type to) z) else None

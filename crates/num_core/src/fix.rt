@@ -4,6 +4,7 @@ pub struct Fix {
     /// In code the place of an `auipc`, whose next word takes the low 12 bits; in a table the
     /// place of 8 bytes.
     pub at: u32,
+    /// What the address is that of.
     pub kind: FixKind,
     /// The number of the routine, or the place of a kept node.
     pub item: u32,
