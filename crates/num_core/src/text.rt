@@ -18,6 +18,7 @@ pub enum TextFault {
     /// The bytes are no UTF-8; the number is the length of the longest prefix that is.
     #[error("no UTF-8 from {0} on")]
     NotUtf8(usize),
+    /// Want of memory.
     #[error("memory")]
     Memory,
 }
@@ -34,11 +35,12 @@ impl Model for Text {
 }
 
 impl Text {
-    /// The text of these bytes.
+    /// The text of these bytes; `NotUtf8` exactly where they are no UTF-8.
     pub fn new(alloc: Global, bytes: &[u8]) -> Result<Text, TextFault>
         ensures text { IfOk result (λ text. text ≡ bytes.now) }
         ensures utf8 { IfOk result (λ _. IsUtf8 bytes.now) }
-        ensures not_utf8 { (at : ℕ) → result ≡ Err (TextFault.NotUtf8 at) → IsValidUpTo bytes.now at }
+        ensures not_utf8 { (at : ℕ) → result ≡ Err (TextFault.NotUtf8 at) → ¬ (IsUtf8 bytes.now) }
+        ensures valid_up_to { (at : ℕ) → result ≡ Err (TextFault.NotUtf8 at) → IsValidUpTo bytes.now at }
     {
         match std::str::from_utf8(bytes) {
             Ok(text) => match String::from_str(alloc, text) {
