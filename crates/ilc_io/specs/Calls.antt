@@ -1,5 +1,5 @@
 -- The calls of a store, and the pieces that a whole file is read and written in.
-use Rattle.std.specs.Prelude.{◌≡◌, ℕ, ◌+◌, ◌-◌, ◌<◌, ◌≤◌, min, List, [], ◌∷◌, ◌++◌, Option}
+use Rattle.std.specs.Prelude.{◌≡◌, ◌⊎◌, ℕ, ◌+◌, ◌-◌, ◌<◌, ◌≤◌, min, List, [], ◌∷◌, ◌++◌, Option}
 use Rattle.std.specs.Option.{option_map}
 use Rattle.ilc_io.specs.declared.call.Call.{Call}
 use Rattle.ilc_io.specs.declared.call.Call.TheVariants.{Size, Read, Create, Append}
@@ -7,6 +7,10 @@ use Rattle.ilc_io.specs.declared.call.Call.TheVariants.{Size, Read, Create, Appe
 -- the calls, where the store notes them, after one more
 abbrev pub noted : Call → Option (List Call) → Option (List Call)
 noted call calls = option_map (λ before. before ++ call ∷ []) calls
+
+-- a refused call may be noted or not
+abbrev pub MayNote : Call → Option (List Call) → Option (List Call) → Type 0
+MayNote call old new = (new ≡ old) ⊎ (new ≡ noted call old)
 
 -- Calls that go through `size` things from the one at `at` on. Each asks for the next `most`, or for all that
 -- are left where they are fewer, and is given `count` of them.

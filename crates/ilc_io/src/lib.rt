@@ -12,6 +12,8 @@ mod mem_stream;
 mod name;
 mod stream;
 mod stream_adapters;
+#[cfg(test)]
+mod tests;
 mod whole;
 
 pub use call::Call;

@@ -43,7 +43,16 @@ impl Model for MemFiles {
 impl MemFiles {
     /// A store with no file. `fail` has the numbers of the calls that are to fail.
     pub fn new(alloc: Global, fail: &[u64]) -> Result<MemFiles, Memory>
-        ensures { IfOk result (λ store. store ≡ record { files = map.empty; asked = []; calls = []; failing = fail.now; read_faults = 0; write_faults = 0 }) }
+        ensures { IfOk result (λ store.
+            store
+            ≡ record {
+              files = map.empty;
+              asked = [];
+              calls = [];
+              failing = fail.now;
+              read_faults = 0;
+              write_faults = 0;
+            }) }
     {
         Ok(MemFiles {
             files: BTreeMap::new(alloc),
@@ -58,7 +67,8 @@ impl MemFiles {
 
     /// Makes these bytes the whole file of a name. This is no call that is counted.
     pub fn put(&mut self, name: &Text, bytes: &[u8]) -> Result<(), Memory>
-        ensures ok { OnOk result (self.new ≡ record self.old { files = stored name.now bytes.now self.old.files }) }
+        ensures ok { OnOk result
+            (self.new ≡ record self.old { files = stored name.now bytes.now self.old.files }) }
         ensures err { OnErr result (self.new ≡ self.old) }
     {
         store(&mut self.files, self.alloc, str_of(name), bytes)
@@ -73,8 +83,8 @@ impl MemFiles {
 
     /// Notes a call, and tells whether it is to fail.
     fn begin(&mut self, call: Call) -> Result<bool, IoFault>
-        ensures noted { OnOk result (self.new ≡ record self.old { calls = self.old.calls ++ call ∷ [] }) }
-        ensures fails { IfOk result (λ fails. IsTrue fails ↔ Contains self.old.failing (length self.old.calls)) }
+        ensures noted { OnOk result (self.new ≡ with_call call self.old) }
+        ensures fails { IfOk result (λ fails. IsTrue fails ↔ NextFails self.old) }
         ensures err { OnErr result (self.new ≡ self.old) }
         ensures memory { OnErr result (IsErrOf result IoFault.Memory) }
     {
@@ -86,7 +96,7 @@ impl MemFiles {
     /// Counts a failed call of `size` or `read`.
     fn refuse_read(&mut self) -> IoFault
         ensures fault { result ≡ IoFault.Failed }
-        ensures counted { self.new ≡ record self.old { read_faults = min (self.old.read_faults + 1) (2 ^ 64 - 1) } }
+        ensures counted { self.new ≡ with_read_fault self.old }
         ensures kept { self.old.read_faults ≤ self.new.read_faults }
     {
         self.read_faults = self.read_faults.saturating_add(1);
@@ -96,7 +106,7 @@ impl MemFiles {
     /// Counts a failed call of `create` or `append`.
     fn refuse_write(&mut self) -> IoFault
         ensures fault { result ≡ IoFault.Failed }
-        ensures counted { self.new ≡ record self.old { write_faults = min (self.old.write_faults + 1) (2 ^ 64 - 1) } }
+        ensures counted { self.new ≡ with_write_fault self.old }
         ensures kept { self.old.write_faults ≤ self.new.write_faults }
     {
         self.write_faults = self.write_faults.saturating_add(1);
@@ -117,14 +127,22 @@ impl Files for MemFiles {
 
     fn size(&mut self, name: &Text) -> Result<Option<u64>, IoFault>
         ensures exact { IfOk result (λ answer. answer ≡ size_of self.old.files name.now) }
-        ensures after_ok { IfOk result (λ answer. self.new ≡ record (with_call Call.Size self.old) { asked = self.old.asked ++ (name.now, answer) ∷ [] }) }
+        ensures after_ok { IfOk result (λ answer.
+            self.new
+            ≡ record (with_call Call.Size self.old) {
+              asked = self.old.asked ++ (
+                name.now,
+                answer,
+              ) ∷ [];
+            }) }
         ensures read_faults_kept { self.old.read_faults ≤ self.new.read_faults }
 
         // The call fails exactly where its number is in the list.
         ensures to_fail { result ≡ Err IoFault.Failed → NextFails self.old }
         ensures not_to_fail { OnOk result (¬ NextFails self.old) }
         ensures after_failed { result ≡ Err IoFault.Failed → self.new ≡ with_read_fault (with_call Call.Size self.old) }
-        ensures after_memory { result ≡ Err IoFault.Memory → (self.new ≡ self.old) ⊎ (self.new ≡ with_call Call.Size self.old) }
+        ensures after_memory { result ≡ Err IoFault.Memory →
+            (self.new ≡ self.old) ⊎ (self.new ≡ with_call Call.Size self.old) }
     {
         if self.begin(Call::Size)? {
             return Err(self.refuse_read());
@@ -135,16 +153,20 @@ impl Files for MemFiles {
     }
 
     fn read(&mut self, name: &Text, at: u64, into: &mut [u8]) -> Result<usize, IoFault>
-        ensures exact { IfOk result (λ count. Reads (drop at (content self.old.files name.now)) into.old into.new count) }
-        ensures full { IfOk result (λ count. count ≡ min (length (drop at (content self.old.files name.now))) (length into.old)) }
+        ensures exact { IfOk result (λ count.
+            Reads (drop at (content self.old.files name.now)) into.old into.new count) }
+        ensures full { IfOk result (λ count.
+            count ≡ min (length (drop at (content self.old.files name.now))) (length into.old)) }
         ensures after_ok { OnOk result (self.new ≡ with_call (Call.Read at (length into.old)) self.old) }
         ensures read_faults_kept { self.old.read_faults ≤ self.new.read_faults }
 
         // The call fails exactly where its number is in the list.
         ensures to_fail { result ≡ Err IoFault.Failed → NextFails self.old }
         ensures not_to_fail { OnOk result (¬ NextFails self.old) }
-        ensures after_failed { result ≡ Err IoFault.Failed → self.new ≡ with_read_fault (with_call (Call.Read at (length into.old)) self.old) }
-        ensures after_memory { result ≡ Err IoFault.Memory → (self.new ≡ self.old) ⊎ (self.new ≡ with_call (Call.Read at (length into.old)) self.old) }
+        ensures after_failed { result ≡ Err IoFault.Failed →
+            self.new ≡ with_read_fault (with_call (Call.Read at (length into.old)) self.old) }
+        ensures after_memory { result ≡ Err IoFault.Memory →
+            (self.new ≡ self.old) ⊎ (self.new ≡ with_call (Call.Read at (length into.old)) self.old) }
     {
         if self.begin(Call::Read(at, into.len()))? {
             return Err(self.refuse_read());
@@ -154,14 +176,20 @@ impl Files for MemFiles {
     }
 
     fn create(&mut self, name: &Text) -> Result<(), IoFault>
-        ensures after_ok { OnOk result (self.new ≡ record (with_call Call.Create self.old) { files = stored name.now [] self.old.files }) }
+        ensures after_ok { OnOk result
+            (self.new ≡ record (with_call Call.Create self.old) {
+              files = stored name.now []
+                  self.old.files;
+            }) }
         ensures write_faults_kept { self.old.write_faults ≤ self.new.write_faults }
 
         // The call fails exactly where its number is in the list.
         ensures to_fail { result ≡ Err IoFault.Failed → NextFails self.old }
         ensures not_to_fail { OnOk result (¬ NextFails self.old) }
-        ensures after_failed { result ≡ Err IoFault.Failed → self.new ≡ with_write_fault (with_call Call.Create self.old) }
-        ensures after_memory { result ≡ Err IoFault.Memory → (self.new ≡ self.old) ⊎ (self.new ≡ with_call Call.Create self.old) }
+        ensures after_failed { result ≡ Err IoFault.Failed →
+            self.new ≡ with_write_fault (with_call Call.Create self.old) }
+        ensures after_memory { result ≡ Err IoFault.Memory →
+            (self.new ≡ self.old) ⊎ (self.new ≡ with_call Call.Create self.old) }
     {
         if self.begin(Call::Create)? {
             return Err(self.refuse_write());
@@ -172,14 +200,20 @@ impl Files for MemFiles {
 
     fn append(&mut self, name: &Text, piece: &[u8]) -> Result<usize, IoFault>
         ensures whole { IfOk result (λ count. count ≡ length piece.now) }
-        ensures after_ok { OnOk result (self.new ≡ record (with_call (Call.Append (length piece.now)) self.old) { files = appended name.now piece.now self.old.files }) }
+        ensures after_ok { OnOk result
+            (self.new ≡ record (with_call (Call.Append (length piece.now)) self.old) {
+              files =
+                  appended name.now piece.now self.old.files;
+            }) }
         ensures write_faults_kept { self.old.write_faults ≤ self.new.write_faults }
 
         // The call fails exactly where its number is in the list.
         ensures to_fail { result ≡ Err IoFault.Failed → NextFails self.old }
         ensures not_to_fail { OnOk result (¬ NextFails self.old) }
-        ensures after_failed { result ≡ Err IoFault.Failed → self.new ≡ with_write_fault (with_call (Call.Append (length piece.now)) self.old) }
-        ensures after_memory { result ≡ Err IoFault.Memory → (self.new ≡ self.old) ⊎ (self.new ≡ with_call (Call.Append (length piece.now)) self.old) }
+        ensures after_failed { result ≡ Err IoFault.Failed →
+            self.new ≡ with_write_fault (with_call (Call.Append (length piece.now)) self.old) }
+        ensures after_memory { result ≡ Err IoFault.Memory →
+            (self.new ≡ self.old) ⊎ (self.new ≡ with_call (Call.Append (length piece.now)) self.old) }
     {
         if self.begin(Call::Append(piece.len()))? {
             return Err(self.refuse_write());

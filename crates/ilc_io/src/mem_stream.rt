@@ -33,7 +33,8 @@ impl Model for MemSource {
 impl MemSource {
     /// A source of these bytes. `fail` has the numbers of the reads that are to fail.
     pub fn new(alloc: Global, bytes: &[u8], fail: &[u64]) -> Result<MemSource, Memory>
-        ensures { IfOk result (λ source. source ≡ record { bytes = bytes.now; calls = 0; failing = fail.now; faults = 0 }) }
+        ensures { IfOk result (λ source.
+            source ≡ record { bytes = bytes.now; calls = 0; failing = fail.now; faults = 0 }) }
     {
         Ok(MemSource {
             bytes: List::from_slice(alloc, bytes)?,
@@ -94,7 +95,8 @@ impl Model for MemSink {
 impl MemSink {
     /// A sink with nothing written. `fail` has the numbers of the writes that are to fail.
     pub fn new(alloc: Global, fail: &[u64]) -> Result<MemSink, Memory>
-        ensures { IfOk result (λ sink. sink ≡ record { bytes = []; calls = 0; failing = fail.now; faults = 0 }) }
+        ensures { IfOk result (λ sink.
+            sink ≡ record { bytes = []; calls = 0; failing = fail.now; faults = 0 }) }
     {
         Ok(MemSink {
             bytes: List::new(alloc),

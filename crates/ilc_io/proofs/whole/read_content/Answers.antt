@@ -24,7 +24,7 @@ loop-bytes-preserved g c = record {
 pub returns-in_err-read_piece-clause-pieces : goal.returns-in_err-read_piece-clause-pieces
 returns-in_err-read_piece-clause-pieces g c =
     reaches_break _ 65536 _ _ _ _ _ _ c.loop-bytes.invariant.pieces
-    c.in_err-read_piece.ensures.at_most_noted
+    c.in_err-read_piece.ensures.may_be_noted
     (c.next_len-wanted.ensures ∙ ap (λ n. min 65536 (c.args.size - n)) c.len-in-loop-bytes.ensures)
     (subst (λ n. n < c.args.size) c.len.ensures c.loop-bytes-test.true)
 

@@ -24,7 +24,7 @@ returns-in_err-written-clause-pieces_broken_off g c =
     let p = err_from_is_err_and c.from_residual-in_err-written.result c.from_residual-in_err-written.ensures.1 in
     rw p.1
     (inr (reaches_break _ 4096 _ c.loop-written.written _ _ _ _ c.loop-written.invariant.pieces
-    c.in_err-written.ensures.at_most_noted
+    c.in_err-written.ensures.may_be_noted
     (length_of_piece c.loop-written.written _ 4096 c.args.bytes.now (ap (λ n. c.loop-written.written + n) c.next_len.ensures) c.loop-written.invariant.within)
     c.loop-written-test.true))
 
