@@ -2,6 +2,7 @@
 //! "RV64I" and "M", without `fence` and without control and status registers.
 #![tactic(auto)]
 
+mod assembler;
 mod decoding;
 mod encoding;
 mod fields;
@@ -10,6 +11,7 @@ mod ins;
 mod opcodes;
 mod operands;
 
+pub use assembler::{Asm, AsmFault, Emitted};
 pub use decoding::{Illegal, decode, one_instruction};
 pub use encoding::encode;
 pub use ins::Ins;
