@@ -1,6 +1,8 @@
 ghost use Rattle.std.specs.Prelude.{◌≡◌, ◌<◌, ◌++◌, [], ℕ, Some, None, length, slice_get, IfOk, OnOk, OnErr, IfSome, MatchResult, if◌then◌else◌};
 ghost use Rattle.byteorder.specs.Endian.{little_bytes};
+ghost use Rattle.std.specs.List.{AllByRecursion};
 ghost use Rattle.rv_isa.specs.Operands.{IsEven};
+ghost use Rattle.rv_isa.specs.Instructions.{IsLegal};
 ghost use Rattle.rv_isa.specs.Assembly.{IsJumpOrBranch, AreGiven, AreBound, appended, labelled, bound, filled as filled_in, filled_from, missed, missed_from, with_distance, is_in_reach, is_in_jump_reach, is_in_branch_reach, program, out_of_reach, bytes_of};
 
 use crate::encoding::encode;
@@ -109,6 +111,7 @@ impl Asm {
     pub fn finish(self) -> Result<Bytes, AsmFault>
         requires { AreBound self.places }
         ensures program { IfOk result (λ bytes. bytes ≡ bytes_of (program self)) }
+        ensures legal { OnOk result (AllByRecursion IsLegal (program self)) }
         ensures reach { OnOk result (out_of_reach self ≡ None) }
         ensures fault { (label : ℕ) → result ≡ Err (AsmFault.OutOfReach label) → out_of_reach self ≡ Some label }
     {
@@ -124,6 +127,7 @@ fn assembled(
     requires given { AreGiven emitted.now places.now }
     requires bound { AreBound places.now }
     ensures program { IfOk result (λ bytes. bytes ≡ bytes_of (filled_from places.now 0 emitted.now)) }
+    ensures legal { OnOk result (AllByRecursion IsLegal (filled_from places.now 0 emitted.now)) }
     ensures reach { OnOk result (missed_from places.now 0 emitted.now ≡ None) }
     ensures fault { (label : ℕ) → result ≡ Err (AsmFault.OutOfReach label) → missed_from places.now 0 emitted.now ≡ Some label }
 {

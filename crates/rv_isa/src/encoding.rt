@@ -1,5 +1,5 @@
 ghost use Rattle.std.specs.Prelude.{◌≡◌};
-ghost use Rattle.rv_isa.specs.Instructions.{word_of};
+ghost use Rattle.rv_isa.specs.Instructions.{word_of, IsLegal};
 
 use crate::formats::{
     b_format, i_format, j_format, r_format, s_format, shift_format, u_format, word_shift_format,
@@ -8,7 +8,8 @@ use crate::ins::Ins;
 
 /// The word of an instruction: the manual's "RV32/64G Instruction Set Listings", a line an instruction.
 pub fn encode(ins: &Ins) -> u32
-    ensures { result ≡ word_of ins.now }
+    ensures word { result ≡ word_of ins.now }
+    ensures legal { IsLegal ins.now }
 {
     match *ins {
         Ins::Lui { rd, imm } => u_format(0x37, rd, imm),

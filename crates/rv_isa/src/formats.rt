@@ -1,5 +1,6 @@
 ghost use Rattle.std.specs.Prelude.{◌≡◌, ◌<◌};
 ghost use Rattle.rv_isa.specs.Formats as formats;
+ghost use Rattle.rv_isa.specs.Instructions.{AreROperands, AreIOperands, AreSOperands, AreBOperands, AreUOperands, AreJOperands, AreShiftOperands, AreWordShiftOperands};
 
 use crate::operands::{
     BranchOffset, Immediate, JumpOffset, Register, ShiftAmount, UpperImmediate, WordShiftAmount,
@@ -16,7 +17,8 @@ pub fn r_format(
     requires opcode { opcode < 128 }
     requires funct3 { funct3 < 8 }
     requires funct7 { funct7 < 128 }
-    ensures { result ≡ formats.r_format opcode funct3 funct7 rd rs1 rs2 }
+    ensures word { result ≡ formats.r_format opcode funct3 funct7 rd rs1 rs2 }
+    ensures operands { AreROperands rd rs1 rs2 }
 {
     opcode
         + (rd.bits() << 7)
@@ -29,7 +31,8 @@ pub fn r_format(
 pub fn i_format(opcode: u32, funct3: u32, rd: Register, rs1: Register, imm: Immediate) -> u32
     requires opcode { opcode < 128 }
     requires funct3 { funct3 < 8 }
-    ensures { result ≡ formats.i_format opcode funct3 rd rs1 imm }
+    ensures word { result ≡ formats.i_format opcode funct3 rd rs1 imm }
+    ensures operands { AreIOperands rd rs1 imm }
 {
     opcode + (rd.bits() << 7) + (funct3 << 12) + (rs1.bits() << 15) + (imm.bits() << 20)
 }
@@ -37,7 +40,8 @@ pub fn i_format(opcode: u32, funct3: u32, rd: Register, rs1: Register, imm: Imme
 pub fn s_format(opcode: u32, funct3: u32, rs1: Register, rs2: Register, imm: Immediate) -> u32
     requires opcode { opcode < 128 }
     requires funct3 { funct3 < 8 }
-    ensures { result ≡ formats.s_format opcode funct3 rs1 rs2 imm }
+    ensures word { result ≡ formats.s_format opcode funct3 rs1 rs2 imm }
+    ensures operands { AreSOperands rs1 rs2 imm }
 {
     let imm = imm.bits();
     opcode
@@ -51,7 +55,8 @@ pub fn s_format(opcode: u32, funct3: u32, rs1: Register, rs2: Register, imm: Imm
 pub fn b_format(opcode: u32, funct3: u32, rs1: Register, rs2: Register, imm: BranchOffset) -> u32
     requires opcode { opcode < 128 }
     requires funct3 { funct3 < 8 }
-    ensures { result ≡ formats.b_format opcode funct3 rs1 rs2 imm }
+    ensures word { result ≡ formats.b_format opcode funct3 rs1 rs2 imm }
+    ensures operands { AreBOperands rs1 rs2 imm }
 {
     let imm = imm.bits();
     opcode
@@ -66,14 +71,16 @@ pub fn b_format(opcode: u32, funct3: u32, rs1: Register, rs2: Register, imm: Bra
 
 pub fn u_format(opcode: u32, rd: Register, imm: UpperImmediate) -> u32
     requires { opcode < 128 }
-    ensures { result ≡ formats.u_format opcode rd imm }
+    ensures word { result ≡ formats.u_format opcode rd imm }
+    ensures operands { AreUOperands rd imm }
 {
     opcode + (rd.bits() << 7) + (imm.bits() << 12)
 }
 
 pub fn j_format(opcode: u32, rd: Register, imm: JumpOffset) -> u32
     requires { opcode < 128 }
-    ensures { result ≡ formats.j_format opcode rd imm }
+    ensures word { result ≡ formats.j_format opcode rd imm }
+    ensures operands { AreJOperands rd imm }
 {
     let imm = imm.bits();
     opcode
@@ -95,7 +102,8 @@ pub fn shift_format(
     requires opcode { opcode < 128 }
     requires funct3 { funct3 < 8 }
     requires upper { upper < 64 }
-    ensures { result ≡ formats.shift_format opcode funct3 upper rd rs1 shamt }
+    ensures word { result ≡ formats.shift_format opcode funct3 upper rd rs1 shamt }
+    ensures operands { AreShiftOperands rd rs1 shamt }
 {
     opcode
         + (rd.bits() << 7)
@@ -116,7 +124,8 @@ pub fn word_shift_format(
     requires opcode { opcode < 128 }
     requires funct3 { funct3 < 8 }
     requires funct7 { funct7 < 128 }
-    ensures { result ≡ formats.r_format opcode funct3 funct7 rd rs1 shamt }
+    ensures word { result ≡ formats.r_format opcode funct3 funct7 rd rs1 shamt }
+    ensures operands { AreWordShiftOperands rd rs1 shamt }
 {
     opcode
         + (rd.bits() << 7)

@@ -2,10 +2,11 @@ ghost use Rattle.std.specs.Prelude.{◌≡◌, ◌<◌, ◌^◌, ◌%◌};
 ghost use Rattle.std.specs.Option.{SomeIff};
 ghost use Rattle.rv_isa.specs.Operands.{IsImmediate, IsBranchOffset, IsJumpOffset, signed, twos_complement};
 
+use std::fmt;
 use std::marker::Model;
 
 /// The number of an integer register, x0 to x31: the manual's chapter "RV32I", "Programmers' Model".
-#[derive(Clone, Copy, Debug, PartialEq, Eq)]
+#[derive(Clone, Copy, PartialEq, Eq)]
 pub struct Register {
     number: u8,
 }
@@ -20,6 +21,12 @@ impl Model for Register {
     ghost invariant = { λ operand. operand.number < 32 };
 
     ghost inverse = { λ number. record { number = number } };
+}
+
+impl fmt::Debug for Register {
+    fn fmt<W: fmt::Write>(&self, f: &mut fmt::Formatter<W>) -> fmt::Result {
+        write!(f, "x{}", self.number)
+    }
 }
 
 impl Register {
@@ -69,7 +76,7 @@ impl Register {
 }
 
 /// A signed number of twelve bits, from -2048 to 2047: imm of the I and S formats.
-#[derive(Clone, Copy, Debug, PartialEq, Eq)]
+#[derive(Clone, Copy, PartialEq, Eq)]
 pub struct Immediate {
     value: i16,
 }
@@ -85,6 +92,12 @@ impl Model for Immediate {
     ghost invariant = { λ operand. IsImmediate operand.value };
 
     ghost inverse = { λ value. record { value = value } };
+}
+
+impl fmt::Debug for Immediate {
+    fn fmt<W: fmt::Write>(&self, f: &mut fmt::Formatter<W>) -> fmt::Result {
+        write!(f, "{}", self.value)
+    }
 }
 
 impl Immediate {
@@ -134,6 +147,7 @@ impl Immediate {
     pub(crate) fn bits(self) -> u32
         ensures bits { result ≡ twos_complement 12 self }
         ensures range { result < 2 ^ 12 }
+        ensures fits { IsImmediate self }
     {
         if self.value < 0 {
             (self.value + 4096) as u32
@@ -144,7 +158,7 @@ impl Immediate {
 }
 
 /// An even number from -4096 to 4094: imm of the B format, in bytes.
-#[derive(Clone, Copy, Debug, PartialEq, Eq)]
+#[derive(Clone, Copy, PartialEq, Eq)]
 pub struct BranchOffset {
     value: i16,
 }
@@ -160,6 +174,12 @@ impl Model for BranchOffset {
     ghost invariant = { λ operand. IsBranchOffset operand.value };
 
     ghost inverse = { λ value. record { value = value } };
+}
+
+impl fmt::Debug for BranchOffset {
+    fn fmt<W: fmt::Write>(&self, f: &mut fmt::Formatter<W>) -> fmt::Result {
+        write!(f, "{}", self.value)
+    }
 }
 
 impl BranchOffset {
@@ -210,6 +230,7 @@ impl BranchOffset {
     pub(crate) fn bits(self) -> u32
         ensures bits { result ≡ twos_complement 13 self }
         ensures range { result < 2 ^ 13 }
+        ensures fits { IsBranchOffset self }
     {
         if self.value < 0 {
             (self.value + 8192) as u32
@@ -220,7 +241,7 @@ impl BranchOffset {
 }
 
 /// An even number from -1048576 to 1048574: imm of the J format, in bytes.
-#[derive(Clone, Copy, Debug, PartialEq, Eq)]
+#[derive(Clone, Copy, PartialEq, Eq)]
 pub struct JumpOffset {
     value: i32,
 }
@@ -236,6 +257,12 @@ impl Model for JumpOffset {
     ghost invariant = { λ operand. IsJumpOffset operand.value };
 
     ghost inverse = { λ value. record { value = value } };
+}
+
+impl fmt::Debug for JumpOffset {
+    fn fmt<W: fmt::Write>(&self, f: &mut fmt::Formatter<W>) -> fmt::Result {
+        write!(f, "{}", self.value)
+    }
 }
 
 impl JumpOffset {
@@ -286,6 +313,7 @@ impl JumpOffset {
     pub(crate) fn bits(self) -> u32
         ensures bits { result ≡ twos_complement 21 self }
         ensures range { result < 2 ^ 21 }
+        ensures fits { IsJumpOffset self }
     {
         if self.value < 0 {
             (self.value + 2097152) as u32
@@ -296,7 +324,7 @@ impl JumpOffset {
 }
 
 /// The upper 20 bits of a number of 32 bits whose lower 12 are 0: imm of the U format.
-#[derive(Clone, Copy, Debug, PartialEq, Eq)]
+#[derive(Clone, Copy, PartialEq, Eq)]
 pub struct UpperImmediate {
     bits: u32,
 }
@@ -311,6 +339,12 @@ impl Model for UpperImmediate {
     ghost invariant = { λ operand. operand.bits < 2 ^ 20 };
 
     ghost inverse = { λ bits. record { bits = bits } };
+}
+
+impl fmt::Debug for UpperImmediate {
+    fn fmt<W: fmt::Write>(&self, f: &mut fmt::Formatter<W>) -> fmt::Result {
+        write!(f, "{}", self.bits)
+    }
 }
 
 impl UpperImmediate {
@@ -343,7 +377,7 @@ impl UpperImmediate {
 }
 
 /// How far 64 bits are shifted: shamt of `Slli`, `Srli` and `Srai`.
-#[derive(Clone, Copy, Debug, PartialEq, Eq)]
+#[derive(Clone, Copy, PartialEq, Eq)]
 pub struct ShiftAmount {
     value: u32,
 }
@@ -358,6 +392,12 @@ impl Model for ShiftAmount {
     ghost invariant = { λ operand. operand.value < 64 };
 
     ghost inverse = { λ value. record { value = value } };
+}
+
+impl fmt::Debug for ShiftAmount {
+    fn fmt<W: fmt::Write>(&self, f: &mut fmt::Formatter<W>) -> fmt::Result {
+        write!(f, "{}", self.value)
+    }
 }
 
 impl ShiftAmount {
@@ -390,7 +430,7 @@ impl ShiftAmount {
 }
 
 /// How far 32 bits are shifted: shamt of `Slliw`, `Srliw` and `Sraiw`.
-#[derive(Clone, Copy, Debug, PartialEq, Eq)]
+#[derive(Clone, Copy, PartialEq, Eq)]
 pub struct WordShiftAmount {
     value: u32,
 }
@@ -405,6 +445,12 @@ impl Model for WordShiftAmount {
     ghost invariant = { λ operand. operand.value < 32 };
 
     ghost inverse = { λ value. record { value = value } };
+}
+
+impl fmt::Debug for WordShiftAmount {
+    fn fmt<W: fmt::Write>(&self, f: &mut fmt::Formatter<W>) -> fmt::Result {
+        write!(f, "{}", self.value)
+    }
 }
 
 impl WordShiftAmount {
