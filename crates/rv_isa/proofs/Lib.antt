@@ -1,3 +1,4 @@
 pub mod WordParts
 pub mod Found
 pub mod Answer
+pub mod WordFits

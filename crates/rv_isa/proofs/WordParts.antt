@@ -15,7 +15,7 @@ parts_equal a b c d e f a' b' c' d' e' f' p q r s t u = cc
 
 -- signed numbers of 12, 13 and 21 bits, there and back
 
-bits_12 : (imm : ℤ) → IsImmediate imm → twos_complement 12 imm < 4096
+pub bits_12 : (imm : ℤ) → IsImmediate imm → twos_complement 12 imm < 4096
 bits_12 (pos a) l = omega (arith, ints, l.0, l.1)
 bits_12 (negsuc a) l = omega (arith, ints, l.0, l.1)
 
@@ -29,7 +29,7 @@ again_12 bits l = grind (arith, nat_tests)
 fits_12 : (bits : ℕ) → bits < 4096 → IsImmediate (signed 12 bits)
 fits_12 bits l = (grind (arith, nat_tests, ints), grind (arith, nat_tests, ints))
 
-bits_13 : (imm : ℤ) → IsBranchOffset imm → twos_complement 13 imm < 8192
+pub bits_13 : (imm : ℤ) → IsBranchOffset imm → twos_complement 13 imm < 8192
 bits_13 (pos a) l = omega (arith, ints, l.0, l.1)
 bits_13 (negsuc a) l = omega (arith, ints, l.0, l.1)
 
@@ -47,7 +47,7 @@ again_13 bits l = grind (arith, nat_tests)
 fits_13 : (bits : ℕ) → bits < 8192 → bits % 2 ≡ 0 → IsBranchOffset (signed 13 bits)
 fits_13 bits l even = (grind (arith, nat_tests, ints), grind (arith, nat_tests, ints), grind (arith, nat_tests, ints))
 
-bits_21 : (imm : ℤ) → IsJumpOffset imm → twos_complement 21 imm < 2097152
+pub bits_21 : (imm : ℤ) → IsJumpOffset imm → twos_complement 21 imm < 2097152
 bits_21 (pos a) l = omega (arith, ints, l.0, l.1)
 bits_21 (negsuc a) l = omega (arith, ints, l.0, l.1)
 

@@ -1,4 +1,4 @@
-ghost use Rattle.std.specs.Prelude.{◌≡◌, ◌≢◌, ◌↔◌, IfOk, IfErr, IsErr};
+ghost use Rattle.std.specs.Prelude.{◌≡◌, ◌≢◌, ◌<◌, ◌^◌, ◌↔◌, IfOk, IfErr, IsErr};
 ghost use Rattle.rv_isa.specs.declared.ins.Ins.{Ins};
 ghost use Rattle.rv_isa.specs.Instructions.{word_of, IsLegal};
 ghost use Rattle.rv_isa.specs.Parts.{parts_of};
@@ -27,4 +27,9 @@ pub fn decode(word: u32) -> Result<Ins, Illegal>
 /// Two instructions with their operands in range that have one word are one instruction.
 pub fn one_instruction()
     ensures { (a b : Ins) → IsLegal a → IsLegal b → word_of a ≡ word_of b → a ≡ b }
+{}
+
+/// The word of an instruction with its operands in range has 32 bits.
+pub fn words_fit()
+    ensures { (ins : Ins) → IsLegal ins → word_of ins < 2 ^ 32 }
 {}

@@ -154,3 +154,45 @@ fn words_of_no_row(rt: HostRuntime) -> Result<(), Fail> {
     );
     Ok(())
 }
+
+#[test]
+fn labels_before_and_behind(rt: HostRuntime) -> Result<(), Fail> {
+    let x0 = Register::of(0);
+    let x10 = Register::of(10);
+    let mut asm = Asm::new(rt.alloc());
+    let start = asm.label()?;
+    let end = asm.label()?;
+    asm.bind(start);
+    asm.emit_to(
+        Ins::Beq {
+            rs1: x10,
+            rs2: x0,
+            imm: BranchOffset::of(0),
+        },
+        end,
+    )?;
+    asm.emit(Ins::Addi {
+        rd: x10,
+        rs1: x10,
+        imm: Immediate::of(-1),
+    })?;
+    asm.emit_to(
+        Ins::Jal {
+            rd: x0,
+            imm: JumpOffset::of(0),
+        },
+        start,
+    )?;
+    asm.bind(end);
+    asm.emit(Ins::Ecall)?;
+    let bytes = asm.finish()?;
+    assert_eq!(rt;
+        bytes.as_slice(),
+        [
+            0x63, 0x06, 0x05, 0x00, 0x13, 0x05, 0xf5, 0xff, 0x6f, 0xf0, 0x9f, 0xff, 0x73, 0x00,
+            0x00, 0x00,
+        ]
+        .as_slice()
+    );
+    Ok(())
+}
