@@ -1,4 +1,4 @@
 pub mod WordParts
-pub mod Found
+pub mod Rows
 pub mod Answer
 pub mod WordFits

@@ -1,8 +1,7 @@
 -- The word of a legal instruction has 32 bits.
-use Rattle.std.proofs.Common.{◌≡◌, ℕ, ◌<◌, ◌^◌, ℤ, pos, arith, lit<}
+use Rattle.std.proofs.Common.{ℕ, ◌<◌, ◌^◌, ℤ, arith, lit<}
 use Rattle.rv_isa.specs.declared.ins.Ins.{Ins}
 use Rattle.rv_isa.specs.declared.ins.Ins.TheVariants.{Lui, Auipc, Jal, Jalr, Beq, Bne, Blt, Bge, Bltu, Bgeu, Lb, Lh, Lw, Ld, Lbu, Lhu, Lwu, Sb, Sh, Sw, Sd, Addi, Slti, Sltiu, Xori, Ori, Andi, Slli, Srli, Srai, Addiw, Slliw, Srliw, Sraiw, Add, Sll, Slt, Sltu, Xor, Srl, Or, And, Sub, Sra, Mul, Mulh, Mulhsu, Mulhu, Div, Divu, Rem, Remu, Addw, Sllw, Srlw, Subw, Sraw, Mulw, Divw, Divuw, Remw, Remuw, Ecall}
-use Rattle.rv_isa.specs.Operands.{IsImmediate, IsBranchOffset, IsJumpOffset, twos_complement}
 use Rattle.rv_isa.specs.Formats.{r_format, i_format, s_format, b_format, u_format, j_format, shift_format}
 use Rattle.rv_isa.specs.Instructions.{word_of, IsLegal, AreROperands, AreIOperands, AreSOperands, AreBOperands, AreUOperands, AreJOperands, AreShiftOperands}
 use Rattle.rv_isa.proofs.WordParts.{bits_12, bits_13, bits_21}

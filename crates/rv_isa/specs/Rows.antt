@@ -1,5 +1,5 @@
 -- The instruction of a word, by its parts.
-use Rattle.std.specs.Prelude.{ℕ, ◌/◌, Option, Some, None, ◌==◌, if◌then◌else◌}
+use Rattle.std.specs.Prelude.{◌/◌, Option, Some, None, ◌==◌, if◌then◌else◌}
 use Rattle.rv_isa.specs.declared.ins.Ins.{Ins}
 use Rattle.rv_isa.specs.declared.ins.Ins.TheVariants.{Lui, Auipc, Jal, Jalr, Beq, Bne, Blt, Bge, Bltu, Bgeu, Lb, Lh, Lw, Ld, Lbu, Lhu, Lwu, Sb, Sh, Sw, Sd, Addi, Slti, Sltiu, Xori, Ori, Andi, Slli, Srli, Srai, Addiw, Slliw, Srliw, Sraiw, Add, Sll, Slt, Sltu, Xor, Srl, Or, And, Sub, Sra, Mul, Mulh, Mulhsu, Mulhu, Div, Divu, Rem, Remu, Addw, Sllw, Srlw, Subw, Sraw, Mulw, Divw, Divuw, Remw, Remuw, Ecall}
 use Rattle.rv_isa.specs.Parts.{Parts, i_imm_of, s_imm_of, b_imm_of, u_imm_of, j_imm_of, shamt_of}
@@ -150,7 +150,7 @@ system_row f =
     if f.rd == 0 then if f.funct3 == 0 then if f.rs1 == 0 then if f.rs2 == 0 then if f.funct7 == 0 then Some Ecall
     else None else None else None else None else None
 
-abbrev pub instruction : Parts → Option Ins
+unfoldable pub instruction : Parts → Option Ins
 instruction f =
     if f.opcode == 55 then Some (Lui f.rd (u_imm_of f))
     else if f.opcode == 23 then Some (Auipc f.rd (u_imm_of f))

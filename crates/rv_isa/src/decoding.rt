@@ -1,4 +1,5 @@
-ghost use Rattle.std.specs.Prelude.{◌≡◌, ◌≢◌, ◌<◌, ◌^◌, ◌↔◌, IfOk, IfErr, IsErr};
+ghost use Rattle.std.specs.Prelude.{◌≡◌, ◌≢◌, ◌<◌, ◌^◌, ◌↔◌, ℕ, IfOk, IfErr, IfSome, IsErr};
+ghost use Rattle.std.specs.Result.{result_ok};
 ghost use Rattle.rv_isa.specs.declared.ins.Ins.{Ins};
 ghost use Rattle.rv_isa.specs.Instructions.{word_of, IsLegal};
 ghost use Rattle.rv_isa.specs.Parts.{parts_of};
@@ -20,6 +21,7 @@ pub fn decode(word: u32) -> Result<Ins, Illegal>
     ensures back { (ins : Ins) → IsLegal ins → word_of ins ≡ word → result ≡ Ok ins }
     ensures illegal { IsErr result ↔ ((ins : Ins) → IsLegal ins → word_of ins ≢ word) }
     ensures carried { IfErr result (λ illegal. illegal.0 ≡ word) }
+    ensures by_parts { result_ok result ≡ instruction (parts_of word) }
 {
     instruction_of(&Fields::new(word)).ok_or(Illegal(word))
 }
@@ -32,4 +34,10 @@ pub fn one_instruction()
 /// The word of an instruction with its operands in range has 32 bits.
 pub fn words_fit()
     ensures { (ins : Ins) → IsLegal ins → word_of ins < 2 ^ 32 }
+{}
+
+/// The parts of a word with 32 bits give the instruction whose word it is, and nothing where there is none.
+pub fn parts_of_words()
+    ensures known { (ins : Ins) → IsLegal ins → instruction (parts_of (word_of ins)) ≡ Some ins }
+    ensures found { (word : ℕ) → word < 2 ^ 32 → IfSome (instruction (parts_of word)) (λ ins. IsLegal ins × (word_of ins ≡ word)) }
 {}

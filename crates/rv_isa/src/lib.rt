@@ -12,7 +12,7 @@ mod opcodes;
 mod operands;
 
 pub use assembler::{Asm, AsmFault, Emitted};
-pub use decoding::{Illegal, decode, one_instruction, words_fit};
+pub use decoding::{Illegal, decode, one_instruction, parts_of_words, words_fit};
 pub use encoding::encode;
 pub use ins::Ins;
 pub use operands::{

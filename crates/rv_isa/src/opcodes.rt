@@ -6,6 +6,7 @@ use crate::ins::Ins;
 
 /// The instruction of a word's fields: one function for each opcode of the manual's "RISC-V base
 /// opcode map".
+#[tactic(auto, unfolding(crate::specs::Rows::instruction))]
 pub fn instruction_of(fields: &Fields) -> Option<Ins>
     ensures { result ≡ instruction fields.now }
 {

@@ -1,5 +1,5 @@
 -- Each value that the calls pass on fits its width, so the casts leave it.
-use Rattle.std.proofs.Common.{◌≡◌, ◌∙◌, ◌^◌, ap, rules, FitsSigned, ℤ, pos, to_z}
+use Rattle.std.proofs.Common.{◌∙◌, ◌^◌, ap, rules, FitsSigned, pos, to_z}
 use Rattle.std.proofs.lemmas.Int.{to_z-of_z}
 use Rattle.std.specs.Int.{int_wrap, int_rem_euclid, w64, w128}
 use Rattle.std.specs.Int.RustNames.{unsigned_abs}

@@ -1,8 +1,8 @@
 -- What is found in reach has the distance between the two places.
-use Rattle.std.proofs.Common.{◌≡◌, ℕ, ◌*◌, Bool, true, false, cond, Option, Some, None, pos, ◌-ℤ◌, refl, ap, arith, ◌∙◌, unwrap_or}
+use Rattle.std.proofs.Common.{◌≡◌, Bool, true, false, cond, Some, None, ap, arith, ◌∙◌}
 use Rattle.std.proofs.lemmas.Int.{ints}
 use Rattle.rv_isa.specs.declared.ins.Ins.{Ins}
-use Rattle.rv_isa.specs.Assembly.{with_distance, distance}
+use Rattle.rv_isa.specs.Assembly.{with_distance}
 use Rattle.rv_isa.proofs.assembler.filled.Goals as goal
 
 some_chosen : (b : Bool) (x y : Ins) → Some y ≡ cond b (Some x) None → y ≡ x

@@ -1,6 +1,6 @@
 -- The instruction of a legal instruction's word is that instruction, and the word of the instruction that
 -- is found is the word.
-use Rattle.std.proofs.Common.{◌≡◌, ℕ, ◌<◌, ◌^◌, ◌/◌, pos, ◌==◌, Some, None, Option, Bool, true, false, cond, refl, ap, sym, subst, ◌∙◌, arith, lit<}
+use Rattle.std.proofs.Common.{◌≡◌, ℕ, ◌<◌, ◌^◌, ◌/◌, ◌==◌, Some, Option, Bool, true, false, cond, refl, ap, sym, subst, ◌∙◌, arith, lit<}
 use Rattle.std.specs.Prelude.{IfSome}
 use Rattle.std.proofs.lemmas.Bool.{eqb-true}
 use Rattle.rv_isa.specs.declared.ins.Ins.{Ins}
@@ -11,6 +11,7 @@ use Rattle.rv_isa.specs.Rows.{instruction, shift_left_row, shift_right_row, word
 use Rattle.rv_isa.proofs.WordParts.{r_parts, i_parts, i_imm, s_parts, s_imm, b_parts, b_imm, u_parts, u_imm, j_parts, j_imm, shift_parts, upper_bits, shift_amount, r_whole, i_whole, s_whole, b_whole, u_whole, j_whole, shift_whole, i_imm_fits, s_imm_fits, b_imm_fits, j_imm_fits, u_imm_fits, shamt_fits}
 
 pub known : (ins : Ins) → IsLegal ins → instruction (parts_of (word_of ins)) ≡ Some ins
+unfolding instruction
 known (Lui rd imm) l = ap instruction (u_parts 0x37 rd imm (lit< tt) l.0 l.1) ∙ ap (λ i. Some (Lui rd i)) (u_imm 0x37 rd imm l.1)
 known (Auipc rd imm) l = ap instruction (u_parts 0x17 rd imm (lit< tt) l.0 l.1) ∙ ap (λ i. Some (Auipc rd i)) (u_imm 0x17 rd imm l.1)
 known (Jal rd imm) l = ap instruction (j_parts 0x6f rd imm (lit< tt) l.0 l.1) ∙ ap (λ i. Some (Jal rd i)) (j_imm 0x6f rd imm l.1)
@@ -218,6 +219,7 @@ system_gives f l o =
     at f.rd 0 _ _ _ (λ a. at f.funct3 0 _ _ _ (λ b. at f.rs1 0 _ _ _ (λ c. at f.rs2 0 _ _ _ (λ d. at f.funct7 0 _ _ _ (λ e. (tt, omega arith)) tt) tt) tt) tt) tt
 
 gives : (f : Parts) → IsParts f → Gives (instruction f) (whole f)
+unfolding instruction
 gives f l =
     at f.opcode 55 _ _ _ (λ o. ((l.rd, u_imm_fits f l), u_whole f 0x37 l o))
     (at f.opcode 23 _ _ _ (λ o. ((l.rd, u_imm_fits f l), u_whole f 0x17 l o))

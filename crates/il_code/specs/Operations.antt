@@ -1,0 +1,34 @@
+-- What instructions do, whichever of their forms they have: ECMA-335 III.3.
+use Rattle.std.specs.Prelude.{ℕ, ◌^◌, ℤ, pos, negsuc, nat_lt, if◌then◌else◌, Option, Some, None}
+use Rattle.std.specs.Option.{option_map}
+use Rattle.il_code.specs.declared.body.Operand.{Operand}
+use Rattle.il_code.specs.declared.body.Operand.TheVariants.{Number}
+use Rattle.il_code.specs.declared.opcode.Op.{Op}
+use Rattle.il_code.specs.declared.opcode.Op.TheVariants.{LdcI4M1, LdcI4_0, LdcI4_1, LdcI4_2, LdcI4_3, LdcI4_4, LdcI4_5, LdcI4_6, LdcI4_7, LdcI4_8, LdcI4S, LdcI4, Ret}
+use Rattle.il_code.specs.declared.operation.Operation.{Operation}
+use Rattle.il_code.specs.declared.operation.Operation.TheVariants.{Constant, Return}
+
+-- a number that an int32 can be
+abbrev pub int32 : ℤ → Option ℤ
+int32 (pos n) = if nat_lt n (2 ^ 31) then Some (pos n) else None
+int32 (negsuc n) = if nat_lt n (2 ^ 31) then Some (negsuc n) else None
+
+-- the load of the constant that stands as the operand
+abbrev pub constant : Operand → Option Operation
+constant (Number n) = option_map Constant (int32 n)
+constant _ = None
+
+abbrev pub operation_of : Op → Operand → Option Operation
+operation_of LdcI4M1 _ = Some (Constant (negsuc 0))
+operation_of LdcI4_0 _ = Some (Constant (pos 0))
+operation_of LdcI4_1 _ = Some (Constant (pos 1))
+operation_of LdcI4_2 _ = Some (Constant (pos 2))
+operation_of LdcI4_3 _ = Some (Constant (pos 3))
+operation_of LdcI4_4 _ = Some (Constant (pos 4))
+operation_of LdcI4_5 _ = Some (Constant (pos 5))
+operation_of LdcI4_6 _ = Some (Constant (pos 6))
+operation_of LdcI4_7 _ = Some (Constant (pos 7))
+operation_of LdcI4_8 _ = Some (Constant (pos 8))
+operation_of LdcI4S operand = constant operand
+operation_of LdcI4 operand = constant operand
+operation_of Ret _ = Some Return

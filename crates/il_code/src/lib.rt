@@ -1,0 +1,12 @@
+//! Method bodies: ECMA-335 II.25.4 and partition III.
+#![tactic(auto)]
+
+mod body;
+mod opcode;
+mod operation;
+mod read;
+
+pub use body::{Body, Clause, ClauseKind, Instr, Operand};
+pub use opcode::{OPCODES, Op, OperandForm};
+pub use operation::Operation;
+pub use read::{BodyFault, instruction_at, tiny_code};

@@ -1,0 +1,46 @@
+ghost use Rattle.std.specs.Prelude.{◌≡◌};
+ghost use Rattle.il_code.specs.Operations.{operation_of, constant};
+
+use crate::body::{Instr, Operand};
+use crate::opcode::Op;
+
+/// What an instruction does, whichever of its forms it has (ECMA-335 III.3).
+#[derive(Clone, Copy, Debug, PartialEq, Eq)]
+pub enum Operation {
+    /// `ldc.i4`: loads a constant.
+    Constant(i32),
+    /// `ret`: goes back to the caller with the result, or ends the program.
+    Return,
+}
+
+impl Instr {
+    /// What the instruction does. None where its operand is of no form that its opcode has.
+    pub fn operation(&self) -> Option<Operation>
+        ensures { result ≡ operation_of self.now.op self.now.operand }
+    {
+        match self.op {
+            Op::LdcI4M1 => Some(Operation::Constant(-1)),
+            Op::LdcI4_0 => Some(Operation::Constant(0)),
+            Op::LdcI4_1 => Some(Operation::Constant(1)),
+            Op::LdcI4_2 => Some(Operation::Constant(2)),
+            Op::LdcI4_3 => Some(Operation::Constant(3)),
+            Op::LdcI4_4 => Some(Operation::Constant(4)),
+            Op::LdcI4_5 => Some(Operation::Constant(5)),
+            Op::LdcI4_6 => Some(Operation::Constant(6)),
+            Op::LdcI4_7 => Some(Operation::Constant(7)),
+            Op::LdcI4_8 => Some(Operation::Constant(8)),
+            Op::LdcI4S | Op::LdcI4 => constant_operation(&self.operand),
+            Op::Ret => Some(Operation::Return),
+        }
+    }
+}
+
+/// The load of the constant that stands as the operand.
+fn constant_operation(operand: &Operand) -> Option<Operation>
+    ensures { result ≡ constant operand.now }
+{
+    match operand {
+        Operand::Number(number) => i32::try_from(*number).ok().map(Operation::Constant),
+        _ => None,
+    }
+}

@@ -1,0 +1,68 @@
+-- Running CIL: ECMA-335 I.12.3.2 for the state, and partition III for what each instruction does.
+use Rattle.std.specs.Prelude.{ℕ, ℤ, ◌==◌, List, [], ◌∷◌, find, Option, Some, None}
+use Rattle.num_core.specs.Run.{Run, Running, Ended, Stopped, Streams, after}
+use Rattle.rv_step.specs.Machine.{low_bits}
+use Rattle.il_code.specs.declared.body.Body.{Body}
+use Rattle.il_code.specs.declared.body.Instr.{Instr}
+use Rattle.il_code.specs.declared.operation.Operation.{Operation}
+use Rattle.il_code.specs.declared.operation.Operation.TheVariants.{Constant, Return}
+use Rattle.il_code.specs.Operations.{operation_of}
+
+-- what a slot of the evaluation stack holds (I.12.3.2.1)
+pub data Slot : Type 0 where
+  Int32 : ℤ → Slot
+
+-- what a call of a method works on: the offset of its next instruction, and its evaluation stack, the top first
+pub record Frame : Type 0 where
+  pub offset : ℕ
+  pub stack : List Slot
+
+-- the frames, the innermost first
+pub record CilState : Type 0 where
+  pub frames : List Frame
+
+-- why a run of CIL can't go on: there is no instruction, or its operands aren't there
+pub data CilCause : Type 0 where
+  NoStep : CilCause
+
+-- the instruction that stands at an offset
+abbrev pub instruction_in : Body → ℕ → Option Instr
+instruction_in body offset = find (λ i. i.at == offset) body.code
+
+abbrev pub no_step : Streams → Run CilState CilCause
+no_step streams = Stopped NoStep streams
+
+-- on to the instruction behind, with this stack
+abbrev pub goes_on : Instr → List Slot → List Frame → Streams → Run CilState CilCause
+goes_on i stack below streams = Running (record { frames = record { offset = i.next; stack = stack } ∷ below }) streams
+
+-- `ret` (III.3.56): the method that the program begins with ends it, with the low byte of its result
+abbrev pub returns : List Slot → List Frame → Streams → Run CilState CilCause
+returns (Int32 n ∷ []) [] streams = Ended (low_bits 8 n) streams
+returns _ _ streams = no_step streams
+
+-- what an instruction does to the innermost frame and those below it
+abbrev pub performs : Option Operation → Instr → Frame → List Frame → Streams → Run CilState CilCause
+performs None i frame below streams = no_step streams
+performs (Some (Constant n)) i frame below streams = goes_on i (Int32 n ∷ frame.stack) below streams
+performs (Some Return) i frame below streams = returns frame.stack below streams
+
+abbrev pub on_instruction : Option Instr → Frame → List Frame → Streams → Run CilState CilCause
+on_instruction None frame below streams = no_step streams
+on_instruction (Some i) frame below streams = performs (operation_of i.op i.operand) i frame below streams
+
+abbrev pub on_frames : Body → List Frame → Streams → Run CilState CilCause
+on_frames body [] streams = no_step streams
+on_frames body (frame ∷ below) streams = on_instruction (instruction_in body frame.offset) frame below streams
+
+-- one step of a body that is the whole program
+abbrev pub cil_step : Body → CilState → Streams → Run CilState CilCause
+cil_step body state streams = on_frames body state.frames streams
+
+-- at the first instruction, with nothing on the stack
+abbrev pub cil_start : CilState
+cil_start = record { frames = record { offset = 0; stack = [] } ∷ [] }
+
+-- where the program stands after n steps, with nothing written at the start
+abbrev pub cil_run : Body → List ℕ → ℕ → Run CilState CilCause
+cil_run body input n = after (cil_step body) n (Running cil_start (record { input = input; output = []; error = [] }))

@@ -1,0 +1,4 @@
+pub mod Cil
+pub mod Code
+pub mod Bare
+pub mod Implements

@@ -1,0 +1,4 @@
+//! The program `ilc`.
+#![tactic(auto)]
+
+mod compile;

@@ -1,0 +1,7 @@
+pub mod Count
+pub mod Store
+pub mod Piece
+pub mod Fault
+pub mod Calls
+pub mod Mem
+pub mod Host

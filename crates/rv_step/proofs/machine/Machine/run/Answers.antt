@@ -1,0 +1,49 @@
+use Rattle.std.proofs.Common.{arith, ◌≤◌, ◌≡◌, ◌<◌, ℕ, Ok, Err, Some, None, subst, sym}
+use Rattle.rv_step.specs.Steps.{run_fault}
+use Rattle.rv_step.specs.declared.fault.RunFault.TheVariants.{Trap, ReadFault, WriteFault}
+use Rattle.rv_step.proofs.Steps.{progress_start, progress_more, progress_spent, goes_on, step_ends, fault_traps, fault_reads, fault_writes, answers_at}
+use Rattle.rv_step.proofs.machine.Machine.run.Goals as goal
+
+pub loop-done-init : goal.loop-done-init
+loop-done-init g c = record {
+  progress = progress_start _ _;
+  input_faults = omega arith;
+  output_faults = omega arith;
+  error_faults = omega arith;
+}
+
+pub loop-done-preserved : goal.loop-done-preserved
+loop-done-preserved g c = record {
+  progress = progress_more _ _ _ _ _ _ _ _ _ c.loop-done.invariant.progress (answers_at _ _ (Ok None) _ _ _ _ _ _ c.advance.ensures.answers (cc));
+  input_faults = omega (arith, c.advance.ensures.input_faults, c.loop-done.invariant.input_faults);
+  output_faults = omega (arith, c.advance.ensures.output_faults, c.loop-done.invariant.output_faults);
+  error_faults = omega (arith, c.advance.ensures.error_faults, c.loop-done.invariant.error_faults);
+}
+
+pub returns-in-Ok-Some-clause-ends : goal.returns-in-Ok-Some-clause-ends
+returns-in-Ok-Some-clause-ends g c =
+    step_ends _ _ _ c.in-Ok-Some.status _ _ _ _ c.loop-done.invariant.progress (answers_at _ _ (Ok (Some c.in-Ok-Some.status)) _ _ _ _ _ _ c.advance.ensures.answers (cc))
+
+pub returns-in-Err-clause-traps : goal.returns-in-Err-clause-traps
+returns-in-Err-clause-traps g c = λ trap is.
+    let named : run_fault c.in-Err.fault ≡ Trap trap = cc in
+    let lt : c.loop-done.done < c.args.steps = c.loop-done-test.true in
+    fault_traps c.in-Err.fault _ _ _ _ _ trap _ _ _ _ _ named lt c.loop-done.invariant.progress c.in-Err.ensures.answers
+
+pub returns-in-Err-clause-read_fails : goal.returns-in-Err-clause-read_fails
+returns-in-Err-clause-read_fails g c = λ is.
+    let named : run_fault c.in-Err.fault ≡ ReadFault = cc in
+    let lt : c.loop-done.done < c.args.steps = c.loop-done-test.true in
+    fault_reads c.in-Err.fault _ _ _ _ _ _ _ _ _ _ named lt c.loop-done.invariant.progress c.in-Err.ensures.answers
+
+pub returns-in-Err-clause-write_fails : goal.returns-in-Err-clause-write_fails
+returns-in-Err-clause-write_fails g c = λ is.
+    let named : run_fault c.in-Err.fault ≡ WriteFault = cc in
+    let lt : c.loop-done.done < c.args.steps = c.loop-done-test.true in
+    fault_writes c.in-Err.fault _ _ _ _ _ _ _ _ _ _ named lt c.loop-done.invariant.progress c.in-Err.ensures.answers
+
+pub returns-clause-spent : goal.returns-clause-spent
+returns-clause-spent g c = λ done is.
+    let all : c.loop-done.done ≡ c.args.steps = omega (arith, c.loop-done.auto.done-end, c.loop-done-test.false) in
+    let same : done ≡ c.args.steps = cc in
+    (same, progress_spent _ _ _ _ _ _ _ all c.loop-done.invariant.progress)

@@ -1,0 +1,4 @@
+pub mod Machine
+pub mod Segments
+pub mod Outcomes
+pub mod Steps

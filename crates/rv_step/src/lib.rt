@@ -1,0 +1,19 @@
+//! The RV64IM machine: RISC-V unprivileged manual, chapters "RV32I", "RV64I" and "M".
+#![tactic(auto)]
+
+mod execute;
+mod fault;
+mod machine;
+mod run;
+mod segment;
+mod trap;
+mod value;
+
+pub use fault::{RunFault, StepFault};
+pub use machine::Machine;
+pub use run::Ran;
+pub use segment::Segment;
+pub use trap::{Cause, Trap};
+
+#[cfg(test)]
+mod tests;
