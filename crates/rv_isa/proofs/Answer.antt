@@ -1,5 +1,5 @@
 -- What `decode` answers, given that it is the instruction of the word's parts.
-use Rattle.std.proofs.Common.{refl, ◌≡◌, ◌≢◌, ℕ, ◌<◌, ◌^◌, ◌∙◌, ap, sym, subst, Some, None, Option, Result, Ok, Err, arith}
+use Rattle.std.proofs.Common.{refl, ◌≡◌, ◌≢◌, ℕ, ◌<◌, ◌^◌, ◌∙◌, ap, sym, subst, Some, None, Option, Result, Ok, Err}
 use Rattle.std.specs.Prelude.{IfOk, IsErr, ◌↔◌}
 use Rattle.std.specs.Option.{ok_or}
 use Rattle.rv_isa.specs.declared.ins.Ins.{Ins}

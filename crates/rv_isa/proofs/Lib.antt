@@ -1,3 +1,4 @@
-pub mod Formats
+pub mod WordParts
 pub mod Rows
 pub mod Answer
+pub mod WordFits

@@ -1,8 +1,6 @@
 -- The instruction that the fields give is the one whose word this is.
-use Rattle.std.proofs.Common.{◌≡◌, ◌∙◌, ap, sym, Some, None, Option}
-use Rattle.rv_isa.specs.Parts.{parts_of}
+use Rattle.std.proofs.Common.{◌∙◌, ap}
 use Rattle.rv_isa.specs.Rows.{instruction}
-use Rattle.rv_isa.proofs.Rows.{known, found}
 use Rattle.rv_isa.proofs.Answer.{row_of, back_of, illegal_of}
 use Rattle.rv_isa.proofs.decoding.decode.Goals as goal
 
