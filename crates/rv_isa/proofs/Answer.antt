@@ -7,7 +7,7 @@ use Rattle.rv_isa.specs.declared.decoding.Illegal.{Illegal}
 use Rattle.rv_isa.specs.Instructions.{word_of, IsLegal}
 use Rattle.rv_isa.specs.Parts.{parts_of}
 use Rattle.rv_isa.specs.Rows.{instruction}
-use Rattle.rv_isa.proofs.Rows.{Gives, known, found}
+use Rattle.rv_isa.proofs.Found.{Gives, known, found}
 
 pub back_of : (w : ℕ) (o : Option Ins) (r : Result Ins Illegal) → o ≡ instruction (parts_of w) → r ≡ ok_or o (record { 0 = w }) → (ins : Ins) → IsLegal ins → word_of ins ≡ w → r ≡ Ok ins
 back_of w o r is same ins legal word =

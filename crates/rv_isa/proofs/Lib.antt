@@ -1,3 +1,3 @@
-pub mod Formats
-pub mod Rows
+pub mod WordParts
+pub mod Found
 pub mod Answer

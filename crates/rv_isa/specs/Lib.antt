@@ -3,3 +3,4 @@ pub mod Formats
 pub mod Instructions
 pub mod Parts
 pub mod Rows
+pub mod Assembly

@@ -2,7 +2,7 @@
 use Rattle.std.proofs.Common.{◌≡◌, ◌∙◌, ap, sym, Some, None, Option}
 use Rattle.rv_isa.specs.Parts.{parts_of}
 use Rattle.rv_isa.specs.Rows.{instruction}
-use Rattle.rv_isa.proofs.Rows.{known, found}
+use Rattle.rv_isa.proofs.Found.{known, found}
 use Rattle.rv_isa.proofs.Answer.{row_of, back_of, illegal_of}
 use Rattle.rv_isa.proofs.decoding.decode.Goals as goal
 
