@@ -18,7 +18,7 @@ same_instruction ins ins' m new result same does = subst (λ i. Does (effect i m
 pub load_done : (m new : MachineState) (rd count at value_now : ℕ) (value : ℕ → ℕ) (bytes : List ℕ) (result : Result Unit Cause) → Some bytes ≡ bytes_at (λ s. s.read) at count m.segments → value_now ≡ value (little_number count bytes) → Does (gives m rd value_now) result m new → Does (loads m rd count at value) result m new
 load_done m new rd count at value_now value bytes result read is does =
     let found : Some value_now ≡ option_map (λ bytes. value (little_number count bytes)) (bytes_at (λ s. s.read) at count m.segments) =
-      ap Some is ∙ ap (option_map (λ bytes. value (little_number count bytes))) read in
+    ap Some is ∙ ap (option_map (λ bytes. value (little_number count bytes))) read in
     subst (λ o. Does (gives_loaded m rd o) result m new) found does
 
 pub first_byte : (bytes : List ℕ) → slice_index bytes 0 ≡ little_number 1 bytes

@@ -59,7 +59,11 @@ impl Machine {
 
     /// Loads 8 bits.
     #[inline]
-    pub(crate) fn load_byte_unsigned(&mut self, register: Register, address: u64) -> Result<(), Cause>
+    pub(crate) fn load_byte_unsigned(
+        &mut self,
+        register: Register,
+        address: u64,
+    ) -> Result<(), Cause>
         ensures { Does (loads self.old register 1 address (λ n. n)) result self.old self.new }
     {
         let Some(bytes) = self.read(address, 1) else {
@@ -71,7 +75,11 @@ impl Machine {
 
     /// Loads 16 bits.
     #[inline]
-    pub(crate) fn load_half_unsigned(&mut self, register: Register, address: u64) -> Result<(), Cause>
+    pub(crate) fn load_half_unsigned(
+        &mut self,
+        register: Register,
+        address: u64,
+    ) -> Result<(), Cause>
         ensures { Does (loads self.old register 2 address (λ n. n)) result self.old self.new }
     {
         let Some(bytes) = self.read(address, 2) else {
@@ -83,7 +91,11 @@ impl Machine {
 
     /// Loads 32 bits.
     #[inline]
-    pub(crate) fn load_word_unsigned(&mut self, register: Register, address: u64) -> Result<(), Cause>
+    pub(crate) fn load_word_unsigned(
+        &mut self,
+        register: Register,
+        address: u64,
+    ) -> Result<(), Cause>
         ensures { Does (loads self.old register 4 address (λ n. n)) result self.old self.new }
     {
         let Some(bytes) = self.read(address, 4) else {

@@ -96,9 +96,7 @@ pub(crate) fn bytes_at(
 fn place_for(segments: &[Segment], access: Access, address: u64, count: u64) -> Option<usize>
     ensures { result ≡ position (serves access address count) segments.now }
 {
-    segments
-        .iter()
-        .position(|segment| segment.grants(access) && segment.covers(address, count))
+    segments.iter().position(|segment| segment.grants(access) && segment.covers(address, count))
 }
 
 /// Writes bytes from an address on, if they lie in one segment that may be written.

@@ -309,7 +309,9 @@ pub(crate) fn div(x: u64, y: u64) -> u64
     if y == 0 {
         return u64::MAX;
     }
-    x.cast_signed().wrapping_div(y.cast_signed()).cast_unsigned()
+    x.cast_signed()
+        .wrapping_div(y.cast_signed())
+        .cast_unsigned()
 }
 
 /// The remainder, both signed.
@@ -320,7 +322,9 @@ pub(crate) fn rem(x: u64, y: u64) -> u64
     if y == 0 {
         return x;
     }
-    x.cast_signed().wrapping_rem(y.cast_signed()).cast_unsigned()
+    x.cast_signed()
+        .wrapping_rem(y.cast_signed())
+        .cast_unsigned()
 }
 
 /// The quotient, both unsigned.
@@ -348,7 +352,11 @@ pub(crate) fn div_word(x: u64, y: u64) -> u64
     if y == 0 {
         return u64::MAX;
     }
-    extend_word(x.cast_signed().wrapping_div(y.cast_signed()).cast_unsigned())
+    extend_word(
+        x.cast_signed()
+            .wrapping_div(y.cast_signed())
+            .cast_unsigned(),
+    )
 }
 
 /// The remainder in 32 bits, both signed.
@@ -360,7 +368,11 @@ pub(crate) fn rem_word(x: u64, y: u64) -> u64
     if y == 0 {
         return extend_word(x);
     }
-    extend_word(x.cast_signed().wrapping_rem(y.cast_signed()).cast_unsigned())
+    extend_word(
+        x.cast_signed()
+            .wrapping_rem(y.cast_signed())
+            .cast_unsigned(),
+    )
 }
 
 /// The quotient in 32 bits, both unsigned.
