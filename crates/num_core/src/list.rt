@@ -1,4 +1,4 @@
-ghost use Rattle.std.specs.Prelude.{◌≡◌, [], ◌∷◌, ◌++◌, ◌↔◌, length, IsTrue, IfOk, OnOk, OnErr, IfErr, slice_get};
+ghost use Rattle.std.specs.Prelude.{◌≡◌, [], ◌∷◌, ◌++◌, ◌↔◌, length, IsTrue, IfOk, OnOk, OnErr, IfErr, slice_get, take, drop, ◌+◌, ◌≤◌};
 ghost use Rattle.std.specs.Option.{option_copied};
 
 use crate::memory::Memory;
@@ -43,6 +43,14 @@ impl<T> List<T> {
         ensures { result.now ≡ self.now }
     {
         self.items.as_slice()
+    }
+
+    /// The items with their allocator, as the vector of std.
+    pub fn into_vec(self) -> Vec<T>
+        ensures { result.items ≡ self }
+    {
+        let List { items } = self;
+        items
     }
 
     /// The number of items.
@@ -93,5 +101,13 @@ impl<T: Copy> List<T> {
     {
         self.items.extend_from_slice(items)?;
         Ok(())
+    }
+
+    /// Puts these items in place of as many from a place on.
+    pub fn overwrite(&mut self, at: usize, items: &[T])
+        requires { at + length items.now ≤ length self.old }
+        ensures { self.new ≡ take at self.old ++ items.now ++ drop (at + length items.now) self.old }
+    {
+        self.items[at..at + items.len()].copy_from_slice(items);
     }
 }

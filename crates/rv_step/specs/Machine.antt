@@ -1,17 +1,17 @@
 -- The RV64IM machine: RISC-V unprivileged manual, chapters "RV32I", "RV64I" and "M".
-use Rattle.std.specs.Prelude.{ℕ, zero, suc, ◌+◌, ◌-◌, ◌*◌, ◌%◌, ◌^◌, ℤ, pos, negsuc, ◌+ℤ◌, Bool, true, false, ◌&&◌, ◌==◌, nat_le, nat_lt, if◌then◌else◌, List, [], ◌∷◌, ◌++◌, length, take, drop, slice_index, slice_set, Option, Some, None}
-use Rattle.std.specs.Int.{cast_signed, w32, w64}
+use Rattle.std.specs.Prelude.{ℕ, zero, suc, ◌+◌, ◌-◌, ◌*◌, ◌/◌, ◌%◌, ◌^◌, ℤ, pos, negsuc, ◌+ℤ◌, ◌-ℤ◌, ◌*ℤ◌, int_lt, int_div, int_rem, bit_and, bit_or, bit_xor, not, Bool, true, false, ◌&&◌, ◌==◌, nat_le, nat_lt, if◌then◌else◌, List, [], ◌∷◌, ◌++◌, length, take, drop, slice_index, slice_set, Option, Some, None}
+use Rattle.std.specs.Int.{cast_signed, int_shr, w8, w16, w32, w64}
 use Rattle.std.specs.Option.{option_map}
-use Rattle.byteorder.specs.Endian.{little_number}
+use Rattle.byteorder.specs.Endian.{little_number, little_bytes}
 use Rattle.num_core.specs.Run.{Run, Running, Ended, Stopped, Streams, after}
 use Rattle.rv_isa.specs.declared.ins.Ins.{Ins}
-use Rattle.rv_isa.specs.declared.ins.Ins.TheVariants.{Lui, Addi, Addiw, Ecall}
+use Rattle.rv_isa.specs.declared.ins.Ins.TheVariants.{Lui, Auipc, Jal, Jalr, Beq, Bne, Blt, Bge, Bltu, Bgeu, Lb, Lh, Lw, Ld, Lbu, Lhu, Lwu, Sb, Sh, Sw, Sd, Addi, Slti, Sltiu, Xori, Ori, Andi, Slli, Srli, Srai, Addiw, Slliw, Srliw, Sraiw, Add, Sll, Slt, Sltu, Xor, Srl, Or, And, Sub, Sra, Mul, Mulh, Mulhsu, Mulhu, Div, Divu, Rem, Remu, Addw, Sllw, Srlw, Subw, Sraw, Mulw, Divw, Divuw, Remw, Remuw, Ecall}
 use Rattle.rv_isa.specs.Parts.{parts_of}
 use Rattle.rv_isa.specs.Rows.{instruction}
 use Rattle.rv_step.specs.declared.segment.Segment.{Segment}
 use Rattle.rv_step.specs.declared.trap.Trap.{Trap}
 use Rattle.rv_step.specs.declared.trap.Cause.{Cause}
-use Rattle.rv_step.specs.declared.trap.Cause.TheVariants.{Fetch, Illegal, Call}
+use Rattle.rv_step.specs.declared.trap.Cause.TheVariants.{Fetch, Load, Store, Illegal, Call}
 
 -- the state of a machine: the address of the next instruction, x0 to x31, and the memory
 pub record MachineState : Type 0 where
@@ -44,7 +44,7 @@ with_bytes_at allows address bytes (s ∷ segments) =
     then Some ((record s { bytes = overwritten (address - s.at) bytes s.bytes }) ∷ segments)
     else option_map (λ others. s ∷ others) (with_bytes_at allows address bytes segments)
 
--- ---- registers
+-- ---- numbers
 
 -- The lowest bits of a whole number in two's complement.
 abbrev pub low_bits : ℕ → ℤ → ℕ
@@ -54,6 +54,56 @@ low_bits bits (negsuc n) = 2 ^ bits - 1 - n % 2 ^ bits
 -- what the forms that end in W leave: the lowest 32 bits with their sign extended to 64
 abbrev pub low_word : ℤ → ℕ
 low_word z = low_bits 64 (cast_signed w32 (low_bits 32 z))
+
+-- both 64 bits read as a signed number, and the lowest 32
+abbrev pub signed_value : ℕ → ℤ
+signed_value n = cast_signed w64 n
+
+abbrev pub word_value : ℕ → ℕ
+word_value n = n % 2 ^ 32
+
+abbrev pub signed_word_value : ℕ → ℤ
+signed_word_value n = cast_signed w32 (word_value n)
+
+abbrev pub all_ones : ℕ
+all_ones = 2 ^ 64 - 1
+
+abbrev pub one_if : Bool → ℕ
+one_if b = if b then 1 else 0
+
+-- the upper 64 of the 128 bits of a product
+abbrev pub upper_bits : ℤ → ℕ
+upper_bits z = low_bits 128 z / 2 ^ 64
+
+-- A division by 0 gives all ones, and the dividend as remainder. The one quotient that overflows, of the least
+-- number by -1, is the dividend again by its lowest bits, with remainder 0.
+abbrev pub quotient : ℕ → ℕ → ℕ
+quotient n d = if d == 0 then all_ones else low_bits 64 (int_div (signed_value n) (signed_value d))
+
+abbrev pub remainder : ℕ → ℕ → ℕ
+remainder n d = if d == 0 then n else low_bits 64 (int_rem (signed_value n) (signed_value d))
+
+abbrev pub unsigned_quotient : ℕ → ℕ → ℕ
+unsigned_quotient n d = if d == 0 then all_ones else n / d
+
+abbrev pub unsigned_remainder : ℕ → ℕ → ℕ
+unsigned_remainder n d = if d == 0 then n else n % d
+
+abbrev pub word_quotient : ℕ → ℕ → ℕ
+word_quotient n d =
+    if word_value d == 0 then all_ones else low_word (int_div (signed_word_value n) (signed_word_value d))
+
+abbrev pub word_remainder : ℕ → ℕ → ℕ
+word_remainder n d =
+    if word_value d == 0 then low_word (pos n) else low_word (int_rem (signed_word_value n) (signed_word_value d))
+
+abbrev pub unsigned_word_quotient : ℕ → ℕ → ℕ
+unsigned_word_quotient n d = if word_value d == 0 then all_ones else low_word (pos (word_value n / word_value d))
+
+abbrev pub unsigned_word_remainder : ℕ → ℕ → ℕ
+unsigned_word_remainder n d = if word_value d == 0 then low_word (pos n) else low_word (pos (word_value n % word_value d))
+
+-- ---- registers
 
 abbrev pub register : MachineState → ℕ → ℕ
 register m r = slice_index m.registers r
@@ -77,6 +127,41 @@ gives m rd value streams =
 abbrev pub traps : MachineState → Cause → Streams → Run MachineState Trap
 traps m cause streams = Stopped (record { pc = m.pc; cause = cause }) streams
 
+-- where a load or store goes
+abbrev pub address : MachineState → ℕ → ℤ → ℕ
+address m rs1 imm = low_bits 64 (pos (register m rs1) +ℤ imm)
+
+abbrev pub without_bit_0 : ℕ → ℕ
+without_bit_0 n = n - n % 2
+
+-- goes on elsewhere, and gives a register the address of the next instruction
+abbrev pub jumps : MachineState → ℕ → ℕ → Streams → Run MachineState Trap
+jumps m rd target streams =
+    Running (record { pc = target; registers = with_register m.registers rd (next_pc m); segments = m.segments }) streams
+
+-- goes on at a distance if the branch is taken
+abbrev pub branches : MachineState → Bool → ℤ → Streams → Run MachineState Trap
+branches m taken imm streams =
+    Running (record m { pc = if taken then low_bits 64 (pos m.pc +ℤ imm) else next_pc m }) streams
+
+-- gives a register what stands for the number in so many bytes, the lowest first
+abbrev pub gives_loaded : MachineState → ℕ → Option ℕ → Streams → Run MachineState Trap
+gives_loaded m rd None streams = traps m Load streams
+gives_loaded m rd (Some value) streams = gives m rd value streams
+
+abbrev pub loads : MachineState → ℕ → ℕ → ℕ → (ℕ → ℕ) → Streams → Run MachineState Trap
+loads m rd count at value =
+    gives_loaded m rd (option_map (λ bytes. value (little_number count bytes)) (bytes_at (λ s. s.read) at count m.segments))
+
+-- writes the lowest bytes of a number, the lowest first
+abbrev pub goes_on_with : MachineState → Option (List Segment) → Streams → Run MachineState Trap
+goes_on_with m None streams = traps m Store streams
+goes_on_with m (Some segments) streams =
+    Running (record { pc = next_pc m; registers = m.registers; segments = segments }) streams
+
+abbrev pub stores : MachineState → ℕ → ℕ → ℕ → Streams → Run MachineState Trap
+stores m count at value = goes_on_with m (with_bytes_at (λ s. s.write) at (little_bytes count value) m.segments)
+
 -- a call of the environment: the one of number 93 ends with the low byte of a0 (x10), by its number in a7 (x17)
 abbrev pub environment_call : MachineState → Streams → Run MachineState Trap
 environment_call m streams =
@@ -86,8 +171,67 @@ environment_call m streams =
 -- what each instruction does
 abbrev pub effect : Ins → MachineState → Streams → Run MachineState Trap
 effect (Lui rd imm) m = gives m rd (low_word (pos (imm * 2 ^ 12)))
+effect (Auipc rd imm) m = gives m rd (low_bits 64 (pos m.pc +ℤ cast_signed w32 (imm * 2 ^ 12)))
+effect (Jal rd imm) m = jumps m rd (low_bits 64 (pos m.pc +ℤ imm))
+effect (Jalr rd rs1 imm) m = jumps m rd (without_bit_0 (address m rs1 imm))
+effect (Beq rs1 rs2 imm) m = branches m (register m rs1 == register m rs2) imm
+effect (Bne rs1 rs2 imm) m = branches m (not (register m rs1 == register m rs2)) imm
+effect (Blt rs1 rs2 imm) m = branches m (int_lt (signed_value (register m rs1)) (signed_value (register m rs2))) imm
+effect (Bge rs1 rs2 imm) m = branches m (not (int_lt (signed_value (register m rs1)) (signed_value (register m rs2)))) imm
+effect (Bltu rs1 rs2 imm) m = branches m (nat_lt (register m rs1) (register m rs2)) imm
+effect (Bgeu rs1 rs2 imm) m = branches m (not (nat_lt (register m rs1) (register m rs2))) imm
+effect (Lb rd rs1 imm) m = loads m rd 1 (address m rs1 imm) (λ n. low_bits 64 (cast_signed w8 n))
+effect (Lh rd rs1 imm) m = loads m rd 2 (address m rs1 imm) (λ n. low_bits 64 (cast_signed w16 n))
+effect (Lw rd rs1 imm) m = loads m rd 4 (address m rs1 imm) (λ n. low_bits 64 (cast_signed w32 n))
+effect (Ld rd rs1 imm) m = loads m rd 8 (address m rs1 imm) (λ n. n)
+effect (Lbu rd rs1 imm) m = loads m rd 1 (address m rs1 imm) (λ n. n)
+effect (Lhu rd rs1 imm) m = loads m rd 2 (address m rs1 imm) (λ n. n)
+effect (Lwu rd rs1 imm) m = loads m rd 4 (address m rs1 imm) (λ n. n)
+effect (Sb rs1 rs2 imm) m = stores m 1 (address m rs1 imm) (register m rs2)
+effect (Sh rs1 rs2 imm) m = stores m 2 (address m rs1 imm) (register m rs2)
+effect (Sw rs1 rs2 imm) m = stores m 4 (address m rs1 imm) (register m rs2)
+effect (Sd rs1 rs2 imm) m = stores m 8 (address m rs1 imm) (register m rs2)
 effect (Addi rd rs1 imm) m = gives m rd (low_bits 64 (pos (register m rs1) +ℤ imm))
+effect (Slti rd rs1 imm) m = gives m rd (one_if (int_lt (signed_value (register m rs1)) imm))
+effect (Sltiu rd rs1 imm) m = gives m rd (one_if (nat_lt (register m rs1) (low_bits 64 imm)))
+effect (Xori rd rs1 imm) m = gives m rd (bit_xor (register m rs1) (low_bits 64 imm))
+effect (Ori rd rs1 imm) m = gives m rd (bit_or (register m rs1) (low_bits 64 imm))
+effect (Andi rd rs1 imm) m = gives m rd (bit_and (register m rs1) (low_bits 64 imm))
+effect (Slli rd rs1 shamt) m = gives m rd (low_bits 64 (pos (register m rs1 * 2 ^ shamt)))
+effect (Srli rd rs1 shamt) m = gives m rd (register m rs1 / 2 ^ shamt)
+effect (Srai rd rs1 shamt) m = gives m rd (low_bits 64 (int_shr (signed_value (register m rs1)) shamt))
 effect (Addiw rd rs1 imm) m = gives m rd (low_word (pos (register m rs1) +ℤ imm))
+effect (Slliw rd rs1 shamt) m = gives m rd (low_word (pos (register m rs1 * 2 ^ shamt)))
+effect (Srliw rd rs1 shamt) m = gives m rd (low_word (pos (word_value (register m rs1) / 2 ^ shamt)))
+effect (Sraiw rd rs1 shamt) m = gives m rd (low_word (int_shr (signed_word_value (register m rs1)) shamt))
+effect (Add rd rs1 rs2) m = gives m rd (low_bits 64 (pos (register m rs1) +ℤ pos (register m rs2)))
+effect (Sll rd rs1 rs2) m = gives m rd (low_bits 64 (pos (register m rs1 * 2 ^ (register m rs2 % 64))))
+effect (Slt rd rs1 rs2) m = gives m rd (one_if (int_lt (signed_value (register m rs1)) (signed_value (register m rs2))))
+effect (Sltu rd rs1 rs2) m = gives m rd (one_if (nat_lt (register m rs1) (register m rs2)))
+effect (Xor rd rs1 rs2) m = gives m rd (bit_xor (register m rs1) (register m rs2))
+effect (Srl rd rs1 rs2) m = gives m rd (register m rs1 / 2 ^ (register m rs2 % 64))
+effect (Or rd rs1 rs2) m = gives m rd (bit_or (register m rs1) (register m rs2))
+effect (And rd rs1 rs2) m = gives m rd (bit_and (register m rs1) (register m rs2))
+effect (Sub rd rs1 rs2) m = gives m rd (low_bits 64 (pos (register m rs1) -ℤ pos (register m rs2)))
+effect (Sra rd rs1 rs2) m = gives m rd (low_bits 64 (int_shr (signed_value (register m rs1)) (register m rs2 % 64)))
+effect (Mul rd rs1 rs2) m = gives m rd (low_bits 64 (pos (register m rs1) *ℤ pos (register m rs2)))
+effect (Mulh rd rs1 rs2) m = gives m rd (upper_bits (signed_value (register m rs1) *ℤ signed_value (register m rs2)))
+effect (Mulhsu rd rs1 rs2) m = gives m rd (upper_bits (signed_value (register m rs1) *ℤ pos (register m rs2)))
+effect (Mulhu rd rs1 rs2) m = gives m rd (upper_bits (pos (register m rs1) *ℤ pos (register m rs2)))
+effect (Div rd rs1 rs2) m = gives m rd (quotient (register m rs1) (register m rs2))
+effect (Divu rd rs1 rs2) m = gives m rd (unsigned_quotient (register m rs1) (register m rs2))
+effect (Rem rd rs1 rs2) m = gives m rd (remainder (register m rs1) (register m rs2))
+effect (Remu rd rs1 rs2) m = gives m rd (unsigned_remainder (register m rs1) (register m rs2))
+effect (Addw rd rs1 rs2) m = gives m rd (low_word (pos (register m rs1) +ℤ pos (register m rs2)))
+effect (Sllw rd rs1 rs2) m = gives m rd (low_word (pos (register m rs1 * 2 ^ (register m rs2 % 32))))
+effect (Srlw rd rs1 rs2) m = gives m rd (low_word (pos (word_value (register m rs1) / 2 ^ (register m rs2 % 32))))
+effect (Subw rd rs1 rs2) m = gives m rd (low_word (pos (register m rs1) -ℤ pos (register m rs2)))
+effect (Sraw rd rs1 rs2) m = gives m rd (low_word (int_shr (signed_word_value (register m rs1)) (register m rs2 % 32)))
+effect (Mulw rd rs1 rs2) m = gives m rd (low_word (pos (register m rs1) *ℤ pos (register m rs2)))
+effect (Divw rd rs1 rs2) m = gives m rd (word_quotient (register m rs1) (register m rs2))
+effect (Divuw rd rs1 rs2) m = gives m rd (unsigned_word_quotient (register m rs1) (register m rs2))
+effect (Remw rd rs1 rs2) m = gives m rd (word_remainder (register m rs1) (register m rs2))
+effect (Remuw rd rs1 rs2) m = gives m rd (unsigned_word_remainder (register m rs1) (register m rs2))
 effect Ecall m = environment_call m
 
 -- the word at the pc, which is a multiple of 4, in an executable segment

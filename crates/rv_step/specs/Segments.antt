@@ -1,6 +1,6 @@
 -- Where the segments of a machine lie.
 use Rattle.std.specs.Prelude.{ℕ, ◌+◌, ◌-◌, ◌^◌, ◌<◌, ◌≤◌, Bool, ◌&&◌, List, length, take, drop, All, AllPairs}
-use Rattle.rv_step.specs.Machine.{covers}
+use Rattle.rv_step.specs.Machine.{covers, overwritten}
 use Rattle.rv_step.specs.declared.segment.Segment.{Segment}
 use Rattle.rv_step.specs.declared.segment.Access.{Access}
 use Rattle.rv_step.specs.declared.segment.Access.TheVariants.{Read, Write, Execute}
@@ -35,3 +35,7 @@ serves access address count s = grants access s && covers address count s
 -- its bytes at so many addresses
 abbrev pub part : ℕ → ℕ → Segment → List ℕ
 part address count s = take count (drop (address - s.at) s.bytes)
+
+-- the segment with these bytes written from an address on
+abbrev pub patched : ℕ → List ℕ → Segment → Segment
+patched address bytes s = record s { bytes = overwritten (address - s.at) bytes s.bytes }

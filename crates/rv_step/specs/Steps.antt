@@ -1,10 +1,11 @@
 -- What one step of the machine does in the midst of a run, where the input isn't yet known beyond what was read.
-use Rattle.std.specs.Prelude.{◌≡◌, ℕ, Bool, true, List, [], ◌++◌, length, Option, None, Some, Result, Ok, Err, IfSome}
+use Rattle.std.specs.Prelude.{◌≡◌, ℕ, Bool, true, List, [], ◌++◌, length, Option, None, Some, Result, Ok, Err, IfSome, IfErr, OnOk, OnErr}
 use Rattle.std.specs.Option.{option_map}
 use Rattle.num_core.specs.Run.{Run, Running, Ended, Stopped, Streams, Outside}
-use Rattle.rv_step.specs.Machine.{MachineState}
+use Rattle.rv_step.specs.Machine.{MachineState, traps}
 use Rattle.rv_step.specs.Outcomes.{SameButBuffer, Continues}
 use Rattle.rv_step.specs.declared.trap.Trap.{Trap}
+use Rattle.rv_step.specs.declared.trap.Cause.{Cause}
 use Rattle.rv_step.specs.declared.fault.StepFault.{StepFault}
 use Rattle.rv_step.specs.declared.fault.RunFault.{RunFault}
 use Rattle.rv_step.specs.declared.fault.RunFault.TheVariants.{Trap as RunTrapped, ReadFault as RunReadFault, WriteFault as RunWriteFault}
@@ -35,6 +36,12 @@ streams_before x more output error = record { input = x.taken ++ more; output = 
 
 abbrev pub streams_after : Exchange → List ℕ → List ℕ → List ℕ → Streams
 streams_after x more output error = record { input = more; output = output ++ x.output; error = error ++ x.error }
+
+-- An instruction that calls nothing outside was done, and `new` is the machine behind it, or can't be done.
+pub record Does (step : Streams → Run MachineState Trap) (result : Result Unit Cause) (old new : MachineState) : Type 0 where
+  pub done : OnOk result ((streams : Streams) → step streams ≡ Running new streams)
+  pub refused : IfErr result (λ cause. (streams : Streams) → step streams ≡ traps old cause streams)
+  pub same : OnErr result (new ≡ old)
 
 -- A step leads to the machine `new` by an exchange, whatever input comes behind it; at the end nothing comes.
 abbrev pub Leads : (Streams → Run MachineState Trap) → Exchange → Bool → MachineState → Type 0

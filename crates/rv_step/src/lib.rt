@@ -3,9 +3,11 @@
 
 mod execute;
 mod fault;
+mod load;
 mod machine;
 mod run;
 mod segment;
+mod store;
 mod trap;
 mod value;
 

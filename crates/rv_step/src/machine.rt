@@ -1,12 +1,15 @@
-ghost use Rattle.std.specs.Prelude.{◌≡◌, ◌<◌, ℕ, All, AllPairs, IfOk, replicate};
-ghost use Rattle.rv_step.specs.Machine.{MachineState, fetched, register as value_of, with_register, next_pc};
+ghost use Rattle.std.specs.Prelude.{◌≡◌, ◌<◌, ℕ, All, AllPairs, IfOk, IfSome, length, option_copied, replicate, not, Some, None};
+ghost use Rattle.std.specs.Bool.{OnTrue, OnFalse};
+ghost use Rattle.rv_step.specs.Machine.{MachineState, fetched, register as value_of, next_pc, gives, jumps, branches, bytes_at as are_bytes_at, with_bytes_at, address as address_of};
+ghost use Rattle.rv_step.specs.Steps.{Does};
 ghost use Rattle.rv_step.specs.Segments.{AreDisjoint, DoesNotWrap};
 
-use crate::segment::{Access, Segment, bytes_at};
+use crate::segment::{Access, Segment, bytes_at, write_bytes};
 use crate::trap::{Cause, Trap};
+use crate::value;
 use byteorder::{ByteOrder, LittleEndian};
 use num_core::{List, Memory};
-use rv_isa::Register;
+use rv_isa::{BranchOffset, Immediate, Register};
 use std::alloc::Global;
 use std::marker::Model;
 
@@ -15,22 +18,19 @@ use std::marker::Model;
 pub struct Machine {
     pc: u64,
     registers: [u64; 32],
-    segments: List<Segment>,
+    segments: Vec<Segment>,
 }
 
 impl Model for Machine {
     ghost use Rattle.rv_step.specs.Machine.{MachineState};
-    ghost use Rattle.rv_step.specs.Segments.{AreSegments};
 
     ghost Value = { MachineState };
 
     ghost view = { λ m. record {
       pc = m.pc;
       registers = m.registers;
-      segments = m.segments;
+      segments = m.segments.items;
     } };
-
-    ghost invariant = { λ m. AreSegments m.segments };
 }
 
 impl Machine {
@@ -43,7 +43,7 @@ impl Machine {
         Ok(Machine {
             pc,
             registers: [0; 32],
-            segments,
+            segments: segments.into_vec(),
         })
     }
 
@@ -57,6 +57,35 @@ impl Machine {
         }
         let bytes = bytes_at(self.segments.as_slice(), Access::Execute, self.pc, 4)?;
         Some(LittleEndian::read_u32(bytes))
+    }
+
+    /// The bytes at so many addresses, if they lie in one segment that may be read.
+    #[inline]
+    pub(crate) fn read(&self, address: u64, count: u64) -> Option<&[u8]>
+        ensures bytes { option_copied result ≡ are_bytes_at (λ s. s.read) address count self.now.segments }
+        ensures length { IfSome result (λ bytes. length bytes.now ≡ count) }
+    {
+        bytes_at(self.segments.as_slice(), Access::Read, address, count)
+    }
+
+    /// Writes bytes from an address on, if they lie in one segment that may be written.
+    #[inline]
+    pub(crate) fn write(&mut self, address: u64, bytes: &[u8]) -> bool
+        ensures written { OnTrue result (with_bytes_at (λ s. s.write) address bytes.now self.old.segments ≡ Some self.new.segments) }
+        ensures refused { OnFalse result (with_bytes_at (λ s. s.write) address bytes.now self.old.segments ≡ None) }
+        ensures same { OnFalse result (self.new ≡ self.old) }
+        ensures pc { self.new.pc ≡ self.old.pc }
+        ensures registers { self.new.registers ≡ self.old.registers }
+    {
+        write_bytes(self.segments.as_mut_slice(), address, bytes)
+    }
+
+    /// Goes on to the next instruction.
+    #[inline]
+    pub(crate) fn go_on(&mut self)
+        ensures { self.new ≡ record self.old { pc = next_pc self.old } }
+    {
+        self.pc = self.pc.wrapping_add(4);
     }
 
     /// The trap of the instruction at the pc.
@@ -74,11 +103,61 @@ impl Machine {
         self.registers[register.index()]
     }
 
+    /// The address of the instruction to be done.
+    #[inline]
+    pub(crate) fn pc(&self) -> u64
+        ensures { result ≡ self.now.pc }
+    {
+        self.pc
+    }
+
+    /// Where a load or store goes.
+    #[inline]
+    pub(crate) fn address(&self, base: Register, offset: Immediate) -> u64
+        ensures { result ≡ address_of self.now base offset }
+    {
+        value::add_signed(self.get(base), offset.value() as i64)
+    }
+
+    /// Goes on at a target, and puts the address of the next instruction in a register, but for x0.
+    #[inline]
+    pub(crate) fn jump(&mut self, register: Register, target: u64) -> Result<(), Cause>
+        ensures { Does (jumps self.old register target) result self.old self.new }
+    {
+        let next = self.pc.wrapping_add(4);
+        let index = register.index();
+        if index != 0 {
+            self.registers[index] = next;
+        }
+        self.pc = target;
+        Ok(())
+    }
+
+    /// Goes on at a distance if the test holds, and else at the next instruction.
+    #[inline]
+    pub(crate) fn branch_if(&mut self, test: bool, distance: BranchOffset) -> Result<(), Cause>
+        ensures { Does (branches self.old test distance) result self.old self.new }
+    {
+        self.pc = if test {
+            value::add_signed(self.pc, distance.value() as i64)
+        } else {
+            self.pc.wrapping_add(4)
+        };
+        Ok(())
+    }
+
+    /// Goes on at a distance unless the test holds, and else at the next instruction.
+    #[inline]
+    pub(crate) fn branch_unless(&mut self, test: bool, distance: BranchOffset) -> Result<(), Cause>
+        ensures { Does (branches self.old (not test) distance) result self.old self.new }
+    {
+        self.branch_if(!test, distance)
+    }
+
     /// Puts a value in a register, but for x0, and goes on to the next instruction.
     #[inline]
     pub(crate) fn give(&mut self, register: Register, value: u64) -> Result<(), Cause>
-        ensures done { result ≡ Ok tt }
-        ensures machine { self.new ≡ record { pc = next_pc self.old; registers = with_register self.old.registers register value; segments = self.old.segments } }
+        ensures { Does (gives self.old register value) result self.old self.new }
     {
         let index = register.index();
         if index != 0 {

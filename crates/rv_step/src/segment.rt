@@ -1,6 +1,7 @@
-ghost use Rattle.std.specs.Prelude.{◌≡◌, length, find, IfSome, IsTrue, option_copied};
-ghost use Rattle.rv_step.specs.Machine.{covers as are_covered, bytes_at as are_bytes_at};
-ghost use Rattle.rv_step.specs.Segments.{grants, serves, part as is_part};
+ghost use Rattle.std.specs.Prelude.{◌≡◌, length, find, position, Some, None, IfSome, IsTrue, option_copied};
+ghost use Rattle.std.specs.Bool.{OnTrue, OnFalse};
+ghost use Rattle.rv_step.specs.Machine.{covers as are_covered, bytes_at as are_bytes_at, with_bytes_at};
+ghost use Rattle.rv_step.specs.Segments.{grants, serves, part as is_part, patched};
 
 use num_core::Bytes;
 
@@ -44,6 +45,16 @@ impl Segment {
         address >= self.at && count <= len && address - self.at <= len - count
     }
 
+    /// Writes bytes from an address on.
+    #[inline]
+    fn write(&mut self, address: u64, bytes: &[u8])
+        requires { IsTrue (are_covered address (length bytes.now) self.old) }
+        ensures { self.new ≡ patched address bytes.now self.old }
+    {
+        let from = (address - self.at) as usize;
+        self.bytes.overwrite(from, bytes);
+    }
+
     /// The bytes at so many addresses.
     #[inline]
     fn part(&self, address: u64, count: u64) -> &[u8]
@@ -78,4 +89,29 @@ pub(crate) fn bytes_at(
 {
     let segment = segment_for(segments, access, address, count)?;
     Some(segment.part(address, count))
+}
+
+/// The place of the first segment that allows the access and holds so many bytes from the address on.
+#[inline]
+fn place_for(segments: &[Segment], access: Access, address: u64, count: u64) -> Option<usize>
+    ensures { result ≡ position (serves access address count) segments.now }
+{
+    segments.iter().position(|segment| segment.grants(access) && segment.covers(address, count))
+}
+
+/// Writes bytes from an address on, if they lie in one segment that may be written.
+#[inline]
+pub(crate) fn write_bytes(segments: &mut [Segment], address: u64, bytes: &[u8]) -> bool
+    ensures written { OnTrue result (with_bytes_at (grants Access.Write) address bytes.now segments.old ≡ Some segments.new) }
+    ensures refused { OnFalse result (with_bytes_at (grants Access.Write) address bytes.now segments.old ≡ None) }
+    ensures same { OnFalse result (segments.new ≡ segments.old) }
+{
+    let count = bytes.len() as u64;
+    match place_for(segments, Access::Write, address, count) {
+        Some(place) => {
+            segments[place].write(address, bytes);
+            true
+        }
+        None => false,
+    }
 }
