@@ -157,12 +157,7 @@ fn with_header(
 }
 
 /// The segments of the program headers from a place on.
-fn segments(
-    alloc: Global,
-    file: &[u8],
-    count: u16,
-    start: u64,
-) -> Result<List<Segment>, ElfFault>
+fn segments(alloc: Global, file: &[u8], count: u16, start: u64) -> Result<List<Segment>, ElfFault>
     ensures exact { Gives result (with_headers_in file.now count start []) }
     ensures disjoint { IfOk result (λ segments. AllPairs AreDisjoint segments) }
     ensures within { IfOk result (λ segments. All DoesNotWrap segments) }
