@@ -1,4 +1,6 @@
-//! Executable files: System V gABI, chapter "Object Files".
+//! Executable files of RISC-V: System V gABI, chapter "Object Files", for ELF64 with the lowest byte first.
+//!
+//! `write_elf` makes the file of a program, which Linux runs unchanged, and `load_elf` the machine that a file loads.
 #![tactic(auto)]
 
 mod fault;
