@@ -1,2 +1,4 @@
 pub mod Stores
 pub mod Pieces
+pub mod Progress
+pub mod TextMap

@@ -47,5 +47,9 @@ pub next_within : (at len count : ℕ) (xs : List ℕ) → at ≤ length xs → 
 next_within at len count xs h k = omega (arith, k, length-take len (drop at xs), length-drop at xs)
 
 -- a piece that is no longer than what is left ends within it
-pub piece_within : (at size most len count next : ℕ) (buffer : List ℕ) → at ≤ size → len ≡ min (size - at) most → count ≤ length (take len buffer) → next ≡ at + count → next ≤ size
-piece_within at size most len count next buffer h e k n = omega (arith, length-take len buffer)
+pub piece_within : (at size most len count next : ℕ) → at ≤ size → len ≡ min most (size - at) → count ≤ len → next ≡ at + count → next ≤ size
+piece_within at size most len count next h e k n = omega arith
+
+-- how long the next piece is
+pub length_of_piece : (at end most : ℕ) (xs : List ℕ) → end ≡ at + min most (length xs - at) → at ≤ length xs → length (take (end - at) (drop at xs)) ≡ min most (length xs - at)
+length_of_piece at end most xs e h = omega (arith, length-take (end - at) (drop at xs), length-drop at xs)

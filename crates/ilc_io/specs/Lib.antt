@@ -2,3 +2,6 @@ pub mod Count
 pub mod Store
 pub mod Piece
 pub mod Fault
+pub mod Calls
+pub mod Mem
+pub mod Host

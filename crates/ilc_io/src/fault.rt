@@ -1,4 +1,5 @@
 ghost use Rattle.std.specs.Prelude.{◌≡◌};
+ghost use Rattle.ilc_io.specs.declared.fault.IoFault.TheVariants.{Memory as IoMemory};
 ghost use Rattle.ilc_io.specs.declared.fault.FileFault.TheVariants.{Memory};
 ghost use Rattle.ilc_io.specs.Fault.{file_fault};
 
@@ -34,6 +35,14 @@ pub enum FileFault {
     Failed,
     #[error("memory")]
     Memory,
+}
+
+impl From<Memory> for IoFault {
+    ghost from_gives = { λ _ fault. fault ≡ IoMemory };
+
+    fn from(_memory: Memory) -> IoFault {
+        IoFault::Memory
+    }
 }
 
 impl From<IoFault> for FileFault {

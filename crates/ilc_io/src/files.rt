@@ -1,9 +1,12 @@
-ghost use Rattle.std.specs.Prelude.{◌≡◌, ℕ, ◌+◌, ◌<◌, ◌≤◌, List, [], ◌∷◌, ◌++◌, length, take, drop, Option, Some, IfOk, OnOk, OnErr};
+ghost use Rattle.std.specs.Prelude.{◌≡◌, ◌⊎◌, ℕ, ◌+◌, ◌<◌, ◌≤◌, List, [], ◌∷◌, ◌++◌, length, take, drop, Option, Some, IfOk, OnOk, OnErr};
 ghost use Rattle.std.specs.Option.{option_map};
 ghost use Rattle.ilc_io.specs.Count.{HasRisen};
 ghost use Rattle.ilc_io.specs.Store.{Store, Asked, content, size_of, stored, appended};
+ghost use Rattle.ilc_io.specs.Calls.{noted, MayNote};
+ghost use Rattle.ilc_io.specs.declared.call.Call.{Call};
 ghost use Rattle.ilc_io.specs.Piece.{Reads};
 
+use crate::call::Call;
 use crate::fault::IoFault;
 use num_core::Text;
 
@@ -17,6 +20,9 @@ pub trait Files {
     /// What `size` was asked for and has answered so far, whether the store tells its files or not.
     ghost asked: { Self → Asked };
 
+    /// The calls of `size`, `read`, `create` and `append` so far, where the store notes them.
+    ghost calls: { Self → Option (List Call) };
+
     /// How many calls of `size` and `read` have failed.
     ghost read_faults: { Self → ℕ };
 
@@ -25,10 +31,13 @@ pub trait Files {
 
     /// The size of a file in bytes, or nothing where there is no such file.
     fn size(&mut self, name: &Text) -> Result<Option<u64>, IoFault>
-        ensures exact { (store : Store) → told self.old ≡ Some store → IfOk result (λ answer. answer ≡ size_of store name.now) }
+        ensures exact { (store : Store) → told self.old ≡ Some store →
+            IfOk result (λ answer. answer ≡ size_of store name.now) }
         ensures same_files { told self.new ≡ told self.old }
         ensures noted { IfOk result (λ answer. asked self.new ≡ asked self.old ++ (name.now, answer) ∷ []) }
         ensures not_noted { OnErr result (asked self.new ≡ asked self.old) }
+        ensures call_noted { OnOk result (calls self.new ≡ noted Call.Size (calls self.old)) }
+        ensures may_be_noted { OnErr result (MayNote Call.Size (calls self.old) (calls self.new)) }
         ensures failed { result ≡ Err IoFault.Failed → HasRisen (read_faults self.old) (read_faults self.new) }
         ensures read_faults_kept { read_faults self.old ≤ read_faults self.new }
         ensures write_faults_kept { write_faults self.old ≤ write_faults self.new };
@@ -37,9 +46,13 @@ pub trait Files {
     /// the end of the file. A file that isn't there reads as empty.
     fn read(&mut self, name: &Text, at: u64, into: &mut [u8]) -> Result<usize, IoFault>
         ensures within { IfOk result (λ count. count ≤ length into.old) }
-        ensures exact { (store : Store) → told self.old ≡ Some store → IfOk result (λ count. Reads (drop at (content store name.now)) into.old into.new count) }
+        ensures exact { (store : Store) → told self.old ≡ Some store →
+            IfOk result (λ count. Reads (drop at (content store name.now)) into.old into.new count) }
         ensures same_files { told self.new ≡ told self.old }
         ensures same_asked { asked self.new ≡ asked self.old }
+        ensures call_noted { OnOk result (calls self.new ≡ noted (Call.Read at (length into.old)) (calls self.old)) }
+        ensures may_be_noted { OnErr result
+            (MayNote (Call.Read at (length into.old)) (calls self.old) (calls self.new)) }
         ensures failed { result ≡ Err IoFault.Failed → HasRisen (read_faults self.old) (read_faults self.new) }
         ensures read_faults_kept { read_faults self.old ≤ read_faults self.new }
         ensures write_faults_kept { write_faults self.old ≤ write_faults self.new };
@@ -49,6 +62,8 @@ pub trait Files {
         ensures created { OnOk result (told self.new ≡ option_map (stored name.now []) (told self.old)) }
         ensures refused { OnErr result (told self.new ≡ told self.old) }
         ensures same_asked { asked self.new ≡ asked self.old }
+        ensures call_noted { OnOk result (calls self.new ≡ noted Call.Create (calls self.old)) }
+        ensures may_be_noted { OnErr result (MayNote Call.Create (calls self.old) (calls self.new)) }
         ensures failed { result ≡ Err IoFault.Failed → HasRisen (write_faults self.old) (write_faults self.new) }
         ensures read_faults_kept { read_faults self.old ≤ read_faults self.new }
         ensures write_faults_kept { write_faults self.old ≤ write_faults self.new };
@@ -58,9 +73,14 @@ pub trait Files {
     fn append(&mut self, name: &Text, piece: &[u8]) -> Result<usize, IoFault>
         ensures within { IfOk result (λ count. count ≤ length piece.now) }
         ensures some { IfOk result (λ count. 0 < length piece.now → 0 < count) }
-        ensures added { IfOk result (λ count. told self.new ≡ option_map (appended name.now (take count piece.now)) (told self.old)) }
+        ensures added { IfOk result (λ count.
+            told self.new
+            ≡ option_map (appended name.now (take count piece.now)) (told self.old)) }
         ensures refused { OnErr result (told self.new ≡ told self.old) }
         ensures same_asked { asked self.new ≡ asked self.old }
+        ensures call_noted { OnOk result (calls self.new ≡ noted (Call.Append (length piece.now)) (calls self.old)) }
+        ensures may_be_noted { OnErr result
+            (MayNote (Call.Append (length piece.now)) (calls self.old) (calls self.new)) }
         ensures failed { result ≡ Err IoFault.Failed → HasRisen (write_faults self.old) (write_faults self.new) }
         ensures read_faults_kept { read_faults self.old ≤ read_faults self.new }
         ensures write_faults_kept { write_faults self.old ≤ write_faults self.new };

@@ -16,7 +16,8 @@ pub trait Source {
     /// Takes the next bytes, and gives how many. None into a buffer that has room is the end.
     fn read(&mut self, into: &mut [u8]) -> Result<usize, Failed>
         ensures within { IfOk result (λ count. count ≤ length into.old) }
-        ensures exact { (left : List ℕ) → rest self.old ≡ Some left → IfOk result (λ count. Reads left into.old into.new count) }
+        ensures exact { (left : List ℕ) → rest self.old ≡ Some left →
+            IfOk result (λ count. Reads left into.old into.new count) }
         ensures taken { IfOk result (λ count. rest self.new ≡ option_map (drop count) (rest self.old)) }
         ensures refused { OnErr result (rest self.new ≡ rest self.old) }
         ensures failed { OnErr result (HasRisen (faults self.old) (faults self.new)) }
@@ -39,7 +40,9 @@ pub trait Sink {
     fn write(&mut self, piece: &[u8]) -> Result<usize, Failed>
         ensures within { IfOk result (λ count. count ≤ length piece.now) }
         ensures some { IfOk result (λ count. 0 < length piece.now → 0 < count) }
-        ensures added { IfOk result (λ count. written self.new ≡ option_map (λ bytes. bytes ++ take count piece.now) (written self.old)) }
+        ensures added { IfOk result (λ count.
+            written self.new
+            ≡ option_map (λ bytes. bytes ++ take count piece.now) (written self.old)) }
         ensures refused { OnErr result (written self.new ≡ written self.old) }
         ensures failed { OnErr result (HasRisen (faults self.old) (faults self.new)) }
         ensures faults_kept { faults self.old ≤ faults self.new };

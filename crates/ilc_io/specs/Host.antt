@@ -1,0 +1,17 @@
+-- What is known of the files of the system.
+use Rattle.std.specs.Prelude.{ℕ, ◌+◌, ◌-◌, ◌^◌, min}
+use Rattle.ilc_io.specs.Store.{Asked}
+
+-- what `size` was asked for and answered, and how many calls have failed
+pub record HostStore : Type 0 where
+  pub asked : Asked
+  pub read_faults : ℕ
+  pub write_faults : ℕ
+
+-- after one more failed call of `size` or `read`, of which the count stays at its last value
+abbrev pub with_read_fault : HostStore → HostStore
+with_read_fault store = record store { read_faults = min (store.read_faults + 1) (2 ^ 64 - 1) }
+
+-- the same of `create` or `append`
+abbrev pub with_write_fault : HostStore → HostStore
+with_write_fault store = record store { write_faults = min (store.write_faults + 1) (2 ^ 64 - 1) }
