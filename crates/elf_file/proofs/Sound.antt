@@ -1,6 +1,6 @@
 -- The segments that a file loads have no address in common, and don't wrap.
-use Rattle.std.proofs.Common.{◌≡◌, ◌∙◌, sym, ap, subst, refl, ℕ, zero, suc, ◌+◌, ◌-◌, ◌^◌, ◌<◌, ◌≤◌, min, max, Bool, true, false, ◌&&◌, not, List, [], ◌∷◌, ◌++◌, length, take, drop, replicate, get_or, arith, cond, ◌⊎◌, inl, inr, length-append, length-take, length-drop}
-use Rattle.std.specs.Prelude.{Result, Ok, Err, ◌==◌, nat_le, nat_lt, All, AllPairs}
+use Rattle.std.proofs.Common.{◌≡◌, ap, subst, refl, ℕ, zero, suc, ◌+◌, ◌^◌, ◌<◌, ◌≤◌, min, max, Bool, true, false, ◌&&◌, not, List, [], ◌∷◌, ◌++◌, length, get_or, arith, cond, ◌⊎◌, inl, inr, length-append, length-take, length-drop}
+use Rattle.std.specs.Prelude.{Result, Ok, Err, ◌==◌, nat_lt}
 use Rattle.std.specs.List.{list_any}
 use Rattle.std.proofs.lemmas.List.{length-replicate}
 use Rattle.std.proofs.lemmas.List.Elements.{All-push}
@@ -9,7 +9,7 @@ use Rattle.std.proofs.lemmas.List.Quantifiers.{all_pairs_push}
 use Rattle.std.proofs.lemmas.Bool.{leb-true, ltb-false}
 use Rattle.rv_step.specs.declared.segment.Segment.{Segment}
 use Rattle.rv_step.specs.Machine.{MachineState}
-use Rattle.rv_step.specs.Segments.{Holds, AreDisjoint, DoesNotWrap, AreSegments}
+use Rattle.rv_step.specs.Segments.{AreDisjoint, DoesNotWrap, AreSegments}
 use Rattle.elf_file.specs.declared.header.ProgramHeader.{ProgramHeader}
 use Rattle.elf_file.specs.Elf.{and_then, number_at, has_elf_header, program_header, segment_of, overlaps, can_load, with_header, with_headers, machine_at, loaded}
 
@@ -96,8 +96,8 @@ no_segments = record { disjoint = λ i j d i_below j_below. absurd (let lt : j <
 pub loaded-sound : (file : List ℕ) (machine : MachineState) → loaded file ≡ Ok machine → AreSegments machine.segments
 loaded-sound file machine is = elim (chosen (has_elf_header file) is) [
   | inl good ↦ let step = then_ok (λ segments. Ok (machine_at (number_at file 8 24) segments)) (with_headers file (number_at file 2 56) (number_at file 8 32) []) machine good.1 in
-    let sound = with_headers-sound file (number_at file 2 56) (number_at file 8 32) [] step.0 no_segments step.1 in
-    let same : step.0 ≡ machine.segments = ap (λ r. r.segments) (let e : machine_at (number_at file 8 24) step.0 ≡ machine = let is = step.2 in cc in e) in
-    subst AreSegments same sound
+      let sound = with_headers-sound file (number_at file 2 56) (number_at file 8 32) [] step.0 no_segments step.1 in
+      let same : step.0 ≡ machine.segments = ap (λ r. r.segments) (let e : machine_at (number_at file 8 24) step.0 ≡ machine = let is = step.2 in cc in e) in
+      subst AreSegments same sound
   | inr bad ↦ absurd (let e = bad.1 in cc)
 ]

@@ -86,7 +86,8 @@ abbrev pub machine_at : ℕ → List Segment → MachineState
 machine_at entry segments = record { pc = entry; registers = replicate 32 0; segments = segments }
 
 -- The machine that a file loads, or the place of the header at which it doesn't: e_entry is at 24, e_phoff at 32
--- and e_phnum at 56.
+-- and e_phnum at 56. No other field is looked at: sections, p_paddr and p_align change nothing of what is loaded,
+-- since parts are copied to their addresses and not mapped by pages.
 abbrev pub loaded : List ℕ → Result MachineState ℕ
 loaded file =
     if has_elf_header file

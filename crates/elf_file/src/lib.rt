@@ -1,4 +1,6 @@
-//! Executable files: System V gABI, chapter "Object Files".
+//! Executable files of RISC-V: System V gABI, chapter "Object Files", for ELF64 with the lowest byte first.
+//!
+//! `write_elf` makes the file of a program, which Linux runs unchanged, and `load_elf` the machine that a file loads.
 #![tactic(auto)]
 
 mod fault;
@@ -11,3 +13,6 @@ pub use fault::ElfFault;
 pub use layout::{ElfLayout, TEXT_AT};
 pub use load::load_elf;
 pub use write::write_elf;
+
+#[cfg(test)]
+mod tests;

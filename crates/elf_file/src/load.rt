@@ -6,18 +6,15 @@ ghost use Rattle.rv_step.specs.Machine.{MachineState};
 ghost use Rattle.rv_step.specs.Segments.{AreDisjoint, DoesNotWrap, AreSegments};
 
 use crate::fault::ElfFault;
-use crate::header::ProgramHeader;
+use crate::header::{
+    ELF_HEADER, EM_RISCV, ET_EXEC, EV_CURRENT, IDENTIFICATION, PROGRAM_HEADER, PT_LOAD,
+    ProgramHeader,
+};
 use crate::write::put_zeros;
 use byteorder::{ByteOrder, LittleEndian};
 use num_core::{Bytes, List, Memory};
 use rv_step::{Machine, Segment};
 use std::alloc::Global;
-
-/// The size of the ELF header.
-const ELF_HEADER: usize = 64;
-
-/// The size of a program header.
-const PROGRAM_HEADER: u64 = 56;
 
 /// The most program headers that a file may have.
 const MOST_HEADERS: u16 = 16;
@@ -50,13 +47,13 @@ fn has_elf_header(file: &[u8]) -> bool
     ensures value { result ≡ has_elf_header_in file.now }
     ensures whole { IsTrue result → 64 ≤ length file.now }
 {
-    file.len() >= ELF_HEADER
-        && file.starts_with(&[0x7F, b'E', b'L', b'F', 2, 1, 1])
-        && half_at(file, 16) == 2
-        && half_at(file, 18) == 243
-        && word_at(file, 20) == 1
-        && half_at(file, 52) == 64
-        && half_at(file, 54) == 56
+    file.len() >= ELF_HEADER as usize
+        && file.starts_with(&IDENTIFICATION)
+        && half_at(file, 16) == ET_EXEC
+        && half_at(file, 18) == EM_RISCV
+        && word_at(file, 20) == EV_CURRENT
+        && half_at(file, 52) == ELF_HEADER
+        && half_at(file, 54) == PROGRAM_HEADER
         && half_at(file, 56) <= MOST_HEADERS
 }
 
@@ -139,11 +136,11 @@ fn with_header(
     ensures whole { OnOk result (place + 56 ≤ length file.now) }
 {
     let size = file.len() as u64;
-    if size < PROGRAM_HEADER || size - PROGRAM_HEADER < place {
+    if size < PROGRAM_HEADER as u64 || size - (PROGRAM_HEADER as u64) < place {
         return Err(ElfFault::BadElf(place));
     }
     let header = program_header(file, place as usize);
-    if header.kind != 1 {
+    if header.kind != PT_LOAD {
         return Ok(earlier);
     }
     if !is_within(header, size)
@@ -157,12 +154,7 @@ fn with_header(
 }
 
 /// The segments of the program headers from a place on.
-fn segments(
-    alloc: Global,
-    file: &[u8],
-    count: u16,
-    start: u64,
-) -> Result<List<Segment>, ElfFault>
+fn segments(alloc: Global, file: &[u8], count: u16, start: u64) -> Result<List<Segment>, ElfFault>
     ensures exact { Gives result (with_headers_in file.now count start []) }
     ensures disjoint { IfOk result (λ segments. AllPairs AreDisjoint segments) }
     ensures within { IfOk result (λ segments. All DoesNotWrap segments) }
@@ -171,7 +163,7 @@ fn segments(
     let mut place = start;
     for _ in 0..count {
         segments = with_header(alloc, file, place, segments)?;
-        place += PROGRAM_HEADER;
+        place += PROGRAM_HEADER as u64;
     }
     Ok(segments)
 }
@@ -180,7 +172,7 @@ fn segments(
 ///
 /// A file is refused at 0 if it isn't an ELF64 file of RISC-V, and at the place of a program header that is cut,
 /// has a part past the end of the file, more bytes in the file than in memory, more than 536,870,912 bytes in
-/// memory, addresses that wrap, or an address of an earlier header. Sections aren't looked at.
+/// memory, addresses that wrap, or an address of an earlier header. Sections and alignments aren't looked at.
 pub fn load_elf(alloc: Global, bytes: &[u8]) -> Result<Machine, ElfFault>
     ensures exact { Gives result (loaded bytes.now) }
     // No address of a machine that loads is in two segments, and no segment passes the last address.

@@ -1,10 +1,19 @@
 ghost use Rattle.std.specs.Prelude.{◌≡◌, ◌+◌, ◌≤◌, ◌<◌, ◌^◌, ◌++◌, length, replicate, Ok, IfOk, OnOk};
 ghost use Rattle.elf_file.specs.Elf.{half, word, xword, elf_header, load_header, text_size, headers_of, file_of, machine_of, loaded, base};
 
+use crate::header::{
+    ELF_HEADER, EM_RISCV, ET_EXEC, EV_CURRENT, IDENTIFICATION, PROGRAM_HEADER, PT_LOAD,
+};
 use crate::layout::{BASE, ElfLayout, HEADERS_SIZE, TEXT_AT};
 use byteorder::{ByteOrder, LittleEndian};
 use num_core::{Bytes, Memory};
 use std::alloc::Global;
+
+/// p_flags of what may be read and executed.
+const READ_EXECUTE: u32 = 5;
+
+/// p_flags of what may be read and written.
+const READ_WRITE: u32 = 6;
 
 fn put_half(file: &mut Bytes, number: u16) -> Result<(), Memory>
     ensures { OnOk result (file.new ≡ file.old ++ half number) }
@@ -42,17 +51,17 @@ pub(crate) fn put_zeros(bytes: &mut Bytes, count: u64) -> Result<(), Memory>
 fn put_elf_header(file: &mut Bytes, entry: u64) -> Result<(), Memory>
     ensures { OnOk result (file.new ≡ file.old ++ elf_header entry) }
 {
-    file.extend_from_slice(&[0x7F, b'E', b'L', b'F', 2, 1, 1])?;
+    file.extend_from_slice(&IDENTIFICATION)?;
     put_zeros(file, 9)?;
-    put_half(file, 2)?;
-    put_half(file, 243)?;
-    put_word(file, 1)?;
+    put_half(file, ET_EXEC)?;
+    put_half(file, EM_RISCV)?;
+    put_word(file, EV_CURRENT)?;
     put_xword(file, entry)?;
-    put_xword(file, 64)?;
+    put_xword(file, ELF_HEADER as u64)?;
     put_xword(file, 0)?;
     put_word(file, 0)?;
-    put_half(file, 64)?;
-    put_half(file, 56)?;
+    put_half(file, ELF_HEADER)?;
+    put_half(file, PROGRAM_HEADER)?;
     put_half(file, 2)?;
     put_half(file, 0)?;
     put_half(file, 0)?;
@@ -70,7 +79,7 @@ fn put_load_header(
     requires { offset < 2 ^ 40 }
     ensures { OnOk result (file.new ≡ file.old ++ load_header flags offset file_size memory_size) }
 {
-    put_word(file, 1)?;
+    put_word(file, PT_LOAD)?;
     put_word(file, flags)?;
     put_xword(file, offset)?;
     put_xword(file, BASE + offset)?;
@@ -81,6 +90,7 @@ fn put_load_header(
     Ok(())
 }
 
+/// The bytes of the file.
 fn file(alloc: Global, layout: &ElfLayout) -> Result<Bytes, Memory>
     requires text_fits { text_size layout.now ≤ 536870912 }
     requires rest_fits { length layout.now.rest + layout.now.zeros ≤ 536870912 }
@@ -92,18 +102,24 @@ fn file(alloc: Global, layout: &ElfLayout) -> Result<Bytes, Memory>
     let rest_size = layout.rest.len() as u64;
     let mut file = Bytes::new(alloc);
     put_elf_header(&mut file, layout.entry)?;
-    put_load_header(&mut file, 5, 0, text_size, text_size)?;
-    put_load_header(&mut file, 6, rest_at, rest_size, rest_size + layout.zeros)?;
+    put_load_header(&mut file, READ_EXECUTE, 0, text_size, text_size)?;
+    put_load_header(
+        &mut file,
+        READ_WRITE,
+        rest_at,
+        rest_size,
+        rest_size + layout.zeros,
+    )?;
     file.extend_from_slice(layout.text.as_slice())?;
     put_zeros(&mut file, rest_at - text_size)?;
     file.extend_from_slice(layout.rest.as_slice())?;
     Ok(file)
 }
 
-/// The executable file of a layout, of two parts that are loaded.
+/// The executable file of a layout, with two segments of at most 536,870,912 bytes each.
 ///
-/// Linux on RV64IM loads and enters it unchanged: each part stands in the file at an offset that is congruent
-/// to its address modulo the page of 4,096 bytes, and no part is both written and executed.
+/// Linux loads it unchanged: each segment stands in the file at an offset that is congruent to its address modulo
+/// the page of 4,096 bytes, and none may be both written and executed.
 pub fn write_elf(alloc: Global, layout: &ElfLayout) -> Result<Bytes, Memory>
     requires text_fits { text_size layout.now ≤ 536870912 }
     requires rest_fits { length layout.now.rest + layout.now.zeros ≤ 536870912 }

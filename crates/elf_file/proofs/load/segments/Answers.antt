@@ -1,7 +1,5 @@
 use Rattle.std.proofs.Common.{[]}
-use Rattle.std.specs.Prelude.{All, AllPairs}
 use Rattle.std.proofs.lemmas.Result.{err_from_is_err_and}
-use Rattle.rv_step.specs.Segments.{AreDisjoint, DoesNotWrap}
 use Rattle.elf_file.specs.Elf.{with_headers}
 use Rattle.elf_file.proofs.Gathering.{goes_on, ends, gathered}
 use Rattle.elf_file.proofs.Sound.{with_headers-sound, no_segments}
