@@ -1,0 +1,6 @@
+//! Types.
+#![tactic(auto)]
+
+mod ty;
+
+pub use ty::{Prim, Ty, TypeId, depth};
