@@ -1,1 +1,4 @@
+pub mod Canon
 pub mod Depth
+pub mod Order
+pub mod Subst

@@ -1,45 +1,46 @@
-ghost use Rattle.std.specs.Prelude.{◌≡◌, min};
-ghost use Rattle.ty_terms.specs.Depth.{depth_of};
-
 use num_core::{Boxed, List};
 
+/// The primitive types, one for each element type that stands for itself (ECMA-335 II.23.1.16).
 #[derive(Clone, Copy, Debug, PartialEq, Eq, PartialOrd, Ord)]
 pub enum Prim {
     Void,
     Boolean,
     Char,
+    I1,
+    U1,
+    I2,
+    U2,
+    I4,
+    U4,
+    I8,
+    U8,
+    String,
+    I,
+    U,
+    Object,
 }
 
+/// A row of the table TypeDef of a module.
 #[derive(Clone, Copy, Debug, PartialEq, Eq, PartialOrd, Ord)]
 pub struct TypeId {
     pub module: u32,
     pub row: u32,
 }
 
-#[derive(Debug, Drop, PartialEq, Eq, PartialOrd, Ord)]
+/// A type, as a signature writes it (ECMA-335 II.23.2.12).
+#[derive(Debug, Drop)]
 pub enum Ty {
     Prim(Prim),
+    /// A class, an interface or a value type, with its arguments.
     Named(TypeId, List<Ty>),
+    /// The one-dimensional array of an element type.
     Vector(Boxed<Ty>),
+    /// A managed pointer.
     ByRef(Boxed<Ty>),
+    /// An argument of the type that owns a member, by its number.
     Var(u32),
+    /// An argument of a method, by its number.
     MVar(u32),
+    /// What stands for any reference type in code that is shared.
     Canon,
-}
-
-/// The depth of a type.
-pub fn depth(ty: &Ty) -> u32
-    ensures { result ≡ min (depth_of ty.now) 4294967295 }
-{
-    match ty {
-        Ty::Named(_, args) => {
-            let mut greatest = 0;
-            for arg in args.as_slice() {
-                greatest = depth(arg).max(greatest);
-            }
-            greatest.saturating_add(1)
-        }
-        Ty::Vector(inner) | Ty::ByRef(inner) => depth(inner.get()).saturating_add(1),
-        Ty::Prim(_) | Ty::Var(_) | Ty::MVar(_) | Ty::Canon => 1,
-    }
 }
