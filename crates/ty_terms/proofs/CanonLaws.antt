@@ -5,7 +5,7 @@ use Rattle.ty_terms.specs.declared.ty.Prim.{Prim as Primitive}
 use Rattle.ty_terms.specs.declared.ty.Ty.{Ty}
 use Rattle.ty_terms.specs.declared.ty.Ty.TheVariants.{Prim, Named, Vector, ByRef, Var, MVar, Canon, rolls-Prim, rolls-Vector, rolls-ByRef, rolls-Var, rolls-MVar, rolls-Canon}
 use Rattle.ty_terms.specs.Canon.{canonical, canon_step, canonical_argument, shared, is_reference_type, is_reference_layer}
-use Rattle.ty_terms.proofs.Terms.{All, Cases, induction, fold-Prim, fold-Named, fold-Vector, fold-ByRef, fold-Var, fold-MVar, fold-Canon, out-Prim, out-Named, out-Vector, out-ByRef, out-Var, out-MVar, out-Canon}
+use Rattle.ty_terms.specs.Induction.{All, Cases, induction, fold-Prim, fold-Named, fold-Vector, fold-ByRef, fold-Var, fold-MVar, fold-Canon, out-Prim, out-Named, out-Vector, out-ByRef, out-Var, out-MVar, out-Canon}
 
 module _ (values : List TypeId) where
   abbrev form : Ty → Ty

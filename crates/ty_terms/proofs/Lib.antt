@@ -1,3 +1,2 @@
 pub mod CanonLaws
 pub mod SubstLaws
-pub mod Terms

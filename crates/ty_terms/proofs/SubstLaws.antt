@@ -8,7 +8,7 @@ use Rattle.ty_terms.specs.declared.ty.Prim.{Prim as Primitive}
 use Rattle.ty_terms.specs.declared.ty.Ty.{Ty}
 use Rattle.ty_terms.specs.declared.ty.Ty.TheVariants.{Prim, Named, Vector, ByRef, Var, MVar, Canon, rolls-Prim, rolls-Named, rolls-Vector, rolls-ByRef, rolls-Canon}
 use Rattle.ty_terms.specs.Subst.{substituted, subst_step, within_step, has_variables_below, IsClosed}
-use Rattle.ty_terms.proofs.Terms.{All, Cases, induction, fold-Prim, fold-Named, fold-Vector, fold-ByRef, fold-Var, fold-MVar, fold-Canon}
+use Rattle.ty_terms.specs.Induction.{All, Cases, induction, fold-Prim, fold-Named, fold-Vector, fold-ByRef, fold-Var, fold-MVar, fold-Canon}
 
 list_all-map : {A : Type 0} (test : A → Bool) (xs : List A) → list_all (λ b. b) (map test xs) ≡ list_all test xs
 list_all-map test [] = refl

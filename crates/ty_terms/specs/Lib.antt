@@ -1,4 +1,6 @@
 pub mod Canon
 pub mod Depth
+pub mod Induction
 pub mod Order
+pub mod OrderLaws
 pub mod Subst

@@ -28,15 +28,27 @@ primitive_number I = 12
 primitive_number U = 13
 primitive_number Object = 14
 
--- what one layer of a type says itself: its kind, and then its numbers
+-- the kind of one layer of a type
+abbrev pub kind : {A : Type 0} → Ty-F A → ℕ
+kind (Ty-F.Prim primitive) = 0
+kind (Ty-F.Named id args) = 1
+kind (Ty-F.Vector element) = 2
+kind (Ty-F.ByRef target) = 3
+kind (Ty-F.Var number) = 4
+kind (Ty-F.MVar number) = 5
+kind Ty-F.Canon = 6
+
+-- the numbers that stand in one layer of a type
+abbrev pub numbers : {A : Type 0} → Ty-F A → List ℕ
+numbers (Ty-F.Prim primitive) = primitive_number primitive ∷ []
+numbers (Ty-F.Named id args) = id.module ∷ id.row ∷ []
+numbers (Ty-F.Var number) = number ∷ []
+numbers (Ty-F.MVar number) = number ∷ []
+numbers _ = []
+
+-- what one layer of a type says itself
 abbrev pub head : {A : Type 0} → Ty-F A → List ℕ
-head (Ty-F.Prim primitive) = 0 ∷ primitive_number primitive ∷ []
-head (Ty-F.Named id args) = 1 ∷ id.module ∷ id.row ∷ []
-head (Ty-F.Vector element) = 2 ∷ []
-head (Ty-F.ByRef target) = 3 ∷ []
-head (Ty-F.Var number) = 4 ∷ number ∷ []
-head (Ty-F.MVar number) = 5 ∷ number ∷ []
-head Ty-F.Canon = 6 ∷ []
+head layer = kind layer ∷ numbers layer
 
 -- what stands inside one layer of a type
 abbrev pub inside : {A : Type 0} → Ty-F A → List A

@@ -4,6 +4,7 @@
 mod canonical;
 mod copy;
 mod measure;
+mod order;
 mod substitution;
 mod ty;
 
