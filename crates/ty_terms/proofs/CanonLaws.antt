@@ -1,6 +1,6 @@
 -- Canonical types: what each form becomes, and that a canonical type is its own.
 use Rattle.std.proofs.Common.{◌≡◌, refl, sym, ap, subst, ◌∙◌, ℕ, Bool, true, false, cond, List, [], ◌∷◌, map, rules}
-use Rattle.ty_terms.specs.declared.ty.TypeId.{TypeId}
+use Rattle.ty_terms.specs.declared.names.TypeId.{TypeId}
 use Rattle.ty_terms.specs.declared.ty.Prim.{Prim as Primitive}
 use Rattle.ty_terms.specs.declared.ty.Ty.{Ty}
 use Rattle.ty_terms.specs.declared.ty.Ty.TheVariants.{Prim, Named, Vector, ByRef, Var, MVar, Canon, rolls-Prim, rolls-Vector, rolls-ByRef, rolls-Var, rolls-MVar, rolls-Canon}

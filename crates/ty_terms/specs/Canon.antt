@@ -1,7 +1,7 @@
 -- Canonical types: `Canon` stands for each argument that is a reference type.
 use Rattle.std.specs.Prelude.{Bool, true, false, not, ◌&&◌, ◌==◌, if◌then◌else◌, List, map}
 use Rattle.std.specs.List.{list_any}
-use Rattle.ty_terms.specs.declared.ty.TypeId.{TypeId}
+use Rattle.ty_terms.specs.declared.names.TypeId.{TypeId}
 use Rattle.ty_terms.specs.declared.ty.Prim.TheVariants.{String, Object}
 use Rattle.ty_terms.specs.declared.ty.Ty.{Ty}
 use Rattle.ty_terms.specs.declared.ty.Ty.TheVariants.{Named, Canon}

@@ -1,6 +1,6 @@
 -- Induction over types, case by case, and the equations of what is defined by one layer.
 use Rattle.std.proofs.Common.{◌≡◌, refl, sym, ap, subst, ◌∙◌, ℕ, List, [], ◌∷◌, map, rules}
-use Rattle.ty_terms.specs.declared.ty.TypeId.{TypeId}
+use Rattle.ty_terms.specs.declared.names.TypeId.{TypeId}
 use Rattle.ty_terms.specs.declared.ty.Prim.{Prim as Primitive}
 use Rattle.ty_terms.specs.declared.ty.Ty.{Ty}
 use Rattle.ty_terms.specs.declared.ty.Ty.TheVariants.{Prim, Named, Vector, ByRef, Var, MVar, Canon, rolls-Prim, rolls-Named, rolls-Vector, rolls-ByRef, rolls-Var, rolls-MVar, rolls-Canon}

@@ -1,5 +1,6 @@
 pub mod Canon
 pub mod Depth
+pub mod Exact
 pub mod Induction
 pub mod Order
 pub mod OrderLaws

@@ -6,7 +6,7 @@ use Rattle.std.specs.Ordering.{ordering_then, ordering_reverse, nat_cmp, MatchOr
 use Rattle.std.specs.Cmp.{IsTotalOrder}
 use Rattle.std.specs.Cmp.Lexicographic.{slice_cmp}
 use Rattle.std.proofs.lemmas.Cmp.{nat_list_cmp_total, ranked, tied_itself}
-use Rattle.ty_terms.specs.declared.ty.TypeId.{TypeId}
+use Rattle.ty_terms.specs.declared.names.TypeId.{TypeId}
 use Rattle.ty_terms.specs.declared.ty.Prim.{Prim as Primitive}
 use Rattle.ty_terms.specs.declared.ty.Prim.TheVariants.{Void, Boolean, Char, I1, U1, I2, U2, I4, U4, I8, U8, String, I, U, Object}
 use Rattle.ty_terms.specs.declared.ty.Ty.{Ty}
@@ -99,15 +99,15 @@ turns = from_inner Turns (λ a each b.
 
 -- ---- exact
 
-then_equal : (o p : Ordering) → ordering_then o p ≡ Equal → (o ≡ Equal) × (p ≡ Equal)
+pub then_equal : (o p : Ordering) → ordering_then o p ≡ Equal → (o ≡ Equal) × (p ≡ Equal)
 then_equal Less p e = cc
 then_equal Equal p e = (refl, e)
 then_equal Greater p e = cc
 
-nat_exact : (x y : ℕ) → nat_cmp x y ≡ Equal → x ≡ y
+pub nat_exact : (x y : ℕ) → nat_cmp x y ≡ Equal → x ≡ y
 nat_exact x y e = subst (λ o. MatchOrdering o (x < y) (x ≡ y) (y < x)) e (ranked x y (nat_cmp x y) refl)
 
-numbers_exact : (xs ys : List ℕ) → slice_cmp nat_cmp xs ys ≡ Equal → xs ≡ ys
+pub numbers_exact : (xs ys : List ℕ) → slice_cmp nat_cmp xs ys ≡ Equal → xs ≡ ys
 numbers_exact [] [] e = refl
 numbers_exact [] (y ∷ ys) e = cc
 numbers_exact (x ∷ xs) [] e = cc
@@ -245,9 +245,6 @@ order_total = record {
   congr = λ a b c e. ap (λ t. order t c) (exact a b e);
 }
 
-pub order_equal : (a b : Ty) → (order a b ≡ Equal) ↔ (a ≡ b)
-order_equal a b = (exact a b, λ e. ap (order a) (sym e) ∙ tied_itself order_total a)
-
 -- ---- the order at types of one kind
 
 pub order_named : (i j : TypeId) (xs ys : List Ty)
@@ -276,3 +273,13 @@ longer_after zero [] (y ∷ ys) low high h = refl
 longer_after zero (x ∷ xs) (y ∷ ys) low high h = absurd (omega arith)
 longer_after (suc i) [] (y ∷ ys) low high h = absurd (omega arith)
 longer_after (suc i) (x ∷ xs) (y ∷ ys) low high h = longer_after i xs ys (omega arith) (omega arith) (omega arith)
+
+all_exact : (types : List Ty) → All Exact types
+all_exact [] = tt
+all_exact (ty ∷ types) = (exact ty, all_exact types)
+
+pub type_exact : (a b : Ty) → order a b ≡ Equal → a ≡ b
+type_exact = exact
+
+pub types_exact : (xs ys : List Ty) → slice_cmp order xs ys ≡ Equal → xs ≡ ys
+types_exact xs ys = lists_exact xs ys (all_exact xs)

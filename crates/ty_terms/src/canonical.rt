@@ -2,7 +2,8 @@ ghost use Rattle.std.specs.Prelude.{◌≡◌, IfOk, map};
 ghost use Rattle.ty_terms.specs.Canon.{canonical, canonical_argument, is_reference_type, is_value_id};
 
 use crate::copy::add;
-use crate::ty::{Prim, Ty, TypeId};
+use crate::names::TypeId;
+use crate::ty::{Prim, Ty};
 use num_core::{Boxed, List, Memory};
 use std::alloc::Global;
 

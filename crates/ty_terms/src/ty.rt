@@ -1,3 +1,4 @@
+use crate::names::TypeId;
 use num_core::{Boxed, List};
 
 /// The primitive types, one for each element type that stands for itself (ECMA-335 II.23.1.16).
@@ -18,13 +19,6 @@ pub enum Prim {
     I,
     U,
     Object,
-}
-
-/// A row of the table TypeDef of a module.
-#[derive(Clone, Copy, Debug, PartialEq, Eq, PartialOrd, Ord)]
-pub struct TypeId {
-    pub module: u32,
-    pub row: u32,
 }
 
 /// A type, as a signature writes it (ECMA-335 II.23.2.12).
