@@ -2,14 +2,12 @@
 #![tactic(auto)]
 
 mod bounds;
-mod boxed;
 mod int;
 mod list;
 mod memory;
 mod text;
 
 pub use bounds::Bounds;
-pub use boxed::Boxed;
 pub use int::{wrap32, wrap64};
 pub use list::{Bytes, List, Units};
 pub use memory::Memory;

@@ -1,10 +1,11 @@
 -- Canonical types: what each form becomes, and that a canonical type is its own.
 use Rattle.std.proofs.Common.{◌≡◌, refl, sym, ap, subst, ◌∙◌, ℕ, Bool, true, false, cond, List, [], ◌∷◌, map, rules}
+use Rattle.ty_terms.specs.declared.names.MethodName.{MethodName}
 use Rattle.ty_terms.specs.declared.names.TypeId.{TypeId}
 use Rattle.ty_terms.specs.declared.ty.Prim.{Prim as Primitive}
 use Rattle.ty_terms.specs.declared.ty.Ty.{Ty}
 use Rattle.ty_terms.specs.declared.ty.Ty.TheVariants.{Prim, Named, Vector, ByRef, Var, MVar, Canon, rolls-Prim, rolls-Vector, rolls-ByRef, rolls-Var, rolls-MVar, rolls-Canon}
-use Rattle.ty_terms.specs.Canon.{canonical, canon_step, canonical_argument, shared, is_reference_type, is_reference_layer}
+use Rattle.ty_terms.specs.Canon.{canonical, canonical_form, canon_step, canonical_argument, shared, is_reference_type, is_reference_layer}
 use Rattle.ty_terms.specs.Induction.{All, Cases, induction, fold-Prim, fold-Named, fold-Vector, fold-ByRef, fold-Var, fold-MVar, fold-Canon, out-Prim, out-Named, out-Vector, out-ByRef, out-Var, out-MVar, out-Canon}
 
 module _ (values : List TypeId) where
@@ -90,3 +91,13 @@ module _ (values : List TypeId) where
     mvar = λ n. ap form (canonical-MVar n);
     canon = ap form canonical-Canon;
   })
+
+  all_fixed : (types : List Ty) → All IsFixed types
+  all_fixed [] = tt
+  all_fixed (ty ∷ types) = (canonical_twice ty, all_fixed types)
+
+  pub form_twice : (name : MethodName) → canonical_form values (canonical_form values name) ≡ canonical_form values name
+  form_twice name =
+      let owners = canonical_twice name.owner in
+      let args = arguments_twice name.args (all_fixed name.args) in
+      λ i. record { owner = owners i; method = name.method; args = args i }

@@ -1,5 +1,5 @@
 -- Substitution: its equation at each form, and its laws.
-use Rattle.std.proofs.Common.{◌≡◌, refl, sym, ap, subst, ◌∙◌, ℕ, ◌<◌, Bool, true, false, ◌&&◌, nat_lt, IsTrue, List, [], ◌∷◌, map, length, slice_index_or, ltb-true, arith}
+use Rattle.std.proofs.Common.{◌≡◌, refl, sym, ap, subst, ◌∙◌, ℕ, ◌<◌, Bool, true, false, ◌&&◌, nat_lt, IsTrue, List, [], ◌∷◌, map, length, slice_index_or, zero, suc, ltb-true, lt-ltb, arith}
 use Rattle.std.proofs.lemmas.Bool.{false≢true}
 use Rattle.std.proofs.lemmas.List.{get_or-map}
 use Rattle.std.specs.List.{list_all}
@@ -93,6 +93,58 @@ module _ (owner method : List Ty) where
 -- the item of a list at a place below its length, after a map
 index-map : (f : Ty → Ty) (types : List Ty) (n : ℕ) (x y : Ty) → IsTrue (nat_lt n (length types)) → f (slice_index_or types n x) ≡ slice_index_or (map f types) n y
 index-map f types n x y h = sym (get_or-map f types n x y (ltb-true n (length types) h))
+
+index-all : (test : Ty → Bool) (types : List Ty) (n : ℕ) (d : Ty) → IsTrue (list_all test types) → IsTrue (nat_lt n (length types)) → IsTrue (test (slice_index_or types n d))
+index-all test [] n d all h = absurd (none_below n h)
+index-all test (ty ∷ types) zero d all h = and_first (test ty) (list_all test types) all
+index-all test (ty ∷ types) (suc n) d all h =
+    index-all test types n d (and_second (test ty) (list_all test types) all) (lt-ltb n (length types) (omega (arith, ltb-true (suc n) (length (ty ∷ types)) h)))
+
+-- the variables of what the arguments are put into
+module _ (owner method : List Ty) (n m : ℕ) (owner_below : IsTrue (list_all (has_variables_below n m) owner)) (method_below : IsTrue (list_all (has_variables_below n m) method)) where
+  abbrev before : Ty → Bool
+  before = has_variables_below (length owner) (length method)
+
+  abbrev after : Ty → Bool
+  after = has_variables_below n m
+
+  abbrev put : Ty → Ty
+  put = substituted owner method
+
+  abbrev IsPut : Ty → Type 0
+  IsPut ty = IsTrue (before ty) → IsTrue (after (put ty))
+
+  and_both : (a b : Bool) → IsTrue a → IsTrue b → IsTrue (a && b)
+  and_both true b h k = k
+  and_both false b h k = h
+
+  all_put : (args : List Ty) → All IsPut args → IsTrue (list_all before args) → IsTrue (list_all after (map put args))
+  all_put [] each below = refl
+  all_put (ty ∷ args) each below =
+      and_both (after (put ty)) (list_all after (map put args))
+      (each.0 (and_first (before ty) (list_all before args) below))
+      (all_put args each.1 (and_second (before ty) (list_all before args) below))
+
+  pub variables_put : (ty : Ty) → IsPut ty
+  variables_put = induction IsPut (record {
+    primitive = λ p below. ap after (substituted-Prim owner method p) ∙ fold-Prim (within_step n m) p;
+    named = λ id args each below.
+        ap after (substituted-Named owner method id args) ∙ below_named n m id (map put args)
+        ∙ all_put args each (sym (below_named (length owner) (length method) id args) ∙ below);
+    vector = λ element one below.
+        ap after (substituted-Vector owner method element) ∙ below-Vector n m (put element)
+        ∙ one (sym (below-Vector (length owner) (length method) element) ∙ below);
+    by_ref = λ target one below.
+        ap after (substituted-ByRef owner method target) ∙ below-ByRef n m (put target)
+        ∙ one (sym (below-ByRef (length owner) (length method) target) ∙ below);
+    var = λ k below.
+        ap after (substituted-Var owner method k)
+        ∙ index-all after owner k (Var k) owner_below (sym (below-Var (length owner) (length method) k) ∙ below);
+    mvar = λ k below.
+        ap after (substituted-MVar owner method k)
+        ∙ index-all after method k (MVar k) method_below (sym (below-MVar (length owner) (length method) k) ∙ below);
+    canon = λ below. ap after (substituted-Canon owner method) ∙ fold-Canon (within_step n m);
+  })
 
 -- the lists of a composition
 module _ (outer_owner outer_method owner method : List Ty) where

@@ -1,6 +1,7 @@
 -- Canonical types: `Canon` stands for each argument that is a reference type.
 use Rattle.std.specs.Prelude.{Bool, true, false, not, ◌&&◌, ◌==◌, if◌then◌else◌, List, map}
 use Rattle.std.specs.List.{list_any}
+use Rattle.ty_terms.specs.declared.names.MethodName.{MethodName}
 use Rattle.ty_terms.specs.declared.names.TypeId.{TypeId}
 use Rattle.ty_terms.specs.declared.ty.Prim.TheVariants.{String, Object}
 use Rattle.ty_terms.specs.declared.ty.Ty.{Ty}
@@ -40,3 +41,11 @@ canonical values = fold-Ty Ty (canon_step values)
 -- an argument that is a reference type becomes `Canon`, and any other its canonical type
 abbrev pub canonical_argument : List TypeId → Ty → Ty
 canonical_argument values ty = if is_reference_type values ty then Canon else canonical values ty
+
+-- the method whose code a method runs by: the canonical type of its owner, and each argument as shared code has it
+abbrev pub canonical_form : List TypeId → MethodName → MethodName
+canonical_form values name = record {
+  owner = canonical values name.owner;
+  method = name.method;
+  args = map (canonical_argument values) name.args;
+}

@@ -1,10 +1,11 @@
 ghost use Rattle.std.specs.Prelude.{◌≡◌, IfOk, map};
-ghost use Rattle.ty_terms.specs.Canon.{canonical, canonical_argument, is_reference_type, is_value_id};
+ghost use Rattle.ty_terms.specs.Canon.{canonical, canonical_argument, canonical_form, is_reference_type, is_value_id};
 
 use crate::copy::add;
-use crate::names::TypeId;
+use crate::names::{MethodName, TypeId};
 use crate::ty::{Prim, Ty};
-use num_core::{Boxed, List, Memory};
+use num_core::{List, Memory};
+use sqlite_items::Boxed;
 use std::alloc::Global;
 
 /// Whether the named type of this id is a value type.
@@ -67,4 +68,20 @@ pub fn canon_arguments(alloc: Global, args: &[Ty], values: &List<TypeId>) -> Res
         add(&mut done, shared)?;
     }
     Ok(done)
+}
+
+/// The canonical form of a method: the canonical type of its owner, and each of its own arguments as shared code has
+/// it. Methods of one canonical form run by one code.
+pub fn canon_method(
+    alloc: Global,
+    name: &MethodName,
+    values: &List<TypeId>,
+) -> Result<MethodName, Memory>
+    ensures { IfOk result (λ name'. name' ≡ canonical_form values.now name.now) }
+{
+    Ok(MethodName {
+        owner: canon(alloc, &name.owner, values)?,
+        method: name.method,
+        args: canon_arguments(alloc, name.args.as_slice(), values)?,
+    })
 }

@@ -4,8 +4,36 @@ ghost use Rattle.ty_terms.specs.Subst.{substituted, has_variables_below};
 
 use crate::copy::add;
 use crate::ty::Ty;
-use num_core::{Boxed, List, Memory};
+use num_core::{List, Memory};
+use sqlite_items::Boxed;
 use std::alloc::Global;
+
+/// Whether each `Var` of a type is below the one number and each `MVar` below the other.
+#[cycle(variables)]
+pub fn variables_below(ty: &Ty, owner: usize, method: usize) -> bool
+    ensures { result ≡ has_variables_below owner method ty.now }
+{
+    match ty {
+        Ty::Var(number) => (*number as usize) < owner,
+        Ty::MVar(number) => (*number as usize) < method,
+        Ty::Named(_, args) => all_variables_below(args.as_slice(), owner, method),
+        Ty::Vector(inner) | Ty::ByRef(inner) => variables_below(inner.get(), owner, method),
+        Ty::Prim(_) | Ty::Canon => true,
+    }
+}
+
+/// The same of each type of a list.
+#[cycle(variables)]
+pub fn all_variables_below(types: &[Ty], owner: usize, method: usize) -> bool
+    ensures { result ≡ list_all (has_variables_below owner method) types.now }
+{
+    for ty in types {
+        if !variables_below(ty, owner, method) {
+            return false;
+        }
+    }
+    true
+}
 
 /// The type with the arguments of the owner for `Var` and those of the method for `MVar`.
 #[cycle(subst)]

@@ -1,5 +1,6 @@
 use crate::names::TypeId;
-use num_core::{Boxed, List};
+use num_core::List;
+use sqlite_items::Boxed;
 
 /// The primitive types, one for each element type that stands for itself (ECMA-335 II.23.1.16).
 #[derive(Clone, Copy, Debug, PartialEq, Eq, PartialOrd, Ord)]

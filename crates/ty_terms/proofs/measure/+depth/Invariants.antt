@@ -1,6 +1,8 @@
-use Rattle.std.proofs.Common.{◌≡◌, min, max, map, drop}
-use Rattle.ty_terms.specs.Depth.{depth_of, greatest}
+use Rattle.std.proofs.Common.{◌≡◌, ◌≤◌, min, max, drop}
+use Rattle.ty_terms.specs.Depth.{depth_of_all}
 use Rattle.ty_terms.proofs.measure.+depth.Given as goal
 
-abbrev pub invariant-loop-arg : goal.invariant-loop-arg
-invariant-loop-arg l = min (max l.greatest (greatest (map depth_of (drop l.arg-index l.arg-items)))) 4294967295 ≡ min (greatest (map depth_of l.arg-items)) 4294967295
+abbrev pub invariant-depth_all-loop-ty : goal.invariant-depth_all-loop-ty
+invariant-depth_all-loop-ty l =
+    (l.greatest ≤ 4294967295)
+    × (min (max l.greatest (depth_of_all (drop l.ty-index l.types))) 4294967295 ≡ min (depth_of_all l.types) 4294967295)
