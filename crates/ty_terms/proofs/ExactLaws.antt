@@ -1,10 +1,9 @@
 -- Names, nodes and entries that their orders do not tell apart are the same.
-use Rattle.std.proofs.Common.{◌≡◌, refl, ap, ℕ, List, [], ◌∷◌}
+use Rattle.std.proofs.Common.{◌≡◌, ap}
 use Rattle.std.specs.declared.cmp.Ordering.{Ordering}
 use Rattle.std.specs.declared.cmp.Ordering.TheVariants.{Equal}
 use Rattle.std.specs.Ordering.{ordering_then, nat_cmp}
 use Rattle.std.specs.Cmp.Lexicographic.{slice_cmp}
-use Rattle.ty_terms.specs.declared.ty.Ty.{Ty}
 use Rattle.ty_terms.specs.declared.names.MethodId.{MethodId}
 use Rattle.ty_terms.specs.declared.names.FieldName.{FieldName}
 use Rattle.ty_terms.specs.declared.names.MethodName.{MethodName}

@@ -1,11 +1,11 @@
 -- The order of types: its equation, and that it is total and tells any two types apart.
-use Rattle.std.proofs.Common.{◌≡◌, refl, sym, ap, subst, ◌∙◌, ℕ, Bool, true, false, List, [], ◌∷◌, map, cond, ◌==◌, ◌<◌, ◌≤◌, ◌↔◌, length, drop, zero, suc, arith}
+use Rattle.std.proofs.Common.{◌≡◌, refl, sym, ap, subst, ◌∙◌, ℕ, List, [], ◌∷◌, map, cond, ◌==◌, ◌<◌, ◌≤◌, length, drop, zero, suc, arith}
 use Rattle.std.specs.declared.cmp.Ordering.{Ordering}
 use Rattle.std.specs.declared.cmp.Ordering.TheVariants.{Less, Equal, Greater}
 use Rattle.std.specs.Ordering.{ordering_then, ordering_reverse, nat_cmp, MatchOrdering}
 use Rattle.std.specs.Cmp.{IsTotalOrder}
 use Rattle.std.specs.Cmp.Lexicographic.{slice_cmp}
-use Rattle.std.proofs.lemmas.Cmp.{nat_list_cmp_total, ranked, tied_itself}
+use Rattle.std.proofs.lemmas.Cmp.{nat_list_cmp_total, ranked}
 use Rattle.ty_terms.specs.declared.names.TypeId.{TypeId}
 use Rattle.ty_terms.specs.declared.ty.Prim.{Prim as Primitive}
 use Rattle.ty_terms.specs.declared.ty.Prim.TheVariants.{Void, Boolean, Char, I1, U1, I2, U2, I4, U4, I8, U8, String, I, U, Object}
@@ -13,9 +13,9 @@ use Rattle.ty_terms.specs.declared.ty.Ty.{Ty}
 use Rattle.ty_terms.specs.declared.ty.Ty.TheVariants.{Prim, Named, Vector, ByRef, Var, MVar, Canon}
 use Rattle.ty_terms.specs.declared.ty.Ty.TheOpen.{Ty-F}
 use Rattle.ty_terms.specs.declared.ty.Ty.TheViews.{out-Ty, roll-Ty, the_lemmas}
-use Rattle.ty_terms.specs.declared.ty.Ty.TheFolds.{fold-Ty, fold_out-Ty, map-Ty}
+use Rattle.ty_terms.specs.declared.ty.Ty.TheFolds.{fold_out-Ty, map-Ty}
 use Rattle.ty_terms.specs.Order.{order, order_step, head, inside, primitive_number}
-use Rattle.ty_terms.specs.Induction.{All, Cases, induction, out-Prim, out-Named, out-Vector, out-ByRef, out-Var, out-MVar, out-Canon}
+use Rattle.ty_terms.specs.Induction.{All, induction, out-Prim, out-Named, out-Vector, out-ByRef, out-Var, out-MVar, out-Canon}
 
 -- ---- the equation
 
@@ -231,12 +231,12 @@ chains : (a : Ty) → Chains a
 chains = from_inner Chains (λ a each b c e f.
     order_is a c
     ∙ then_chain (slice_cmp nat_cmp (own a) (own b)) (slice_cmp nat_cmp (own b) (own c)) (slice_cmp nat_cmp (own a) (own c))
-      (slice_cmp order (inner a) (inner b)) (slice_cmp order (inner b) (inner c)) (slice_cmp order (inner a) (inner c))
-      (nat_list_cmp_total.trans (own a) (own b) (own c))
-      (λ same. ap (λ t. slice_cmp nat_cmp t (own c)) (numbers_exact (own a) (own b) same))
-      (λ same. ap (slice_cmp nat_cmp (own a)) (sym (numbers_exact (own b) (own c) same)))
-      (lists_chain (inner a) (inner b) (inner c) each)
-      (sym (order_is a b) ∙ e) (sym (order_is b c) ∙ f))
+    (slice_cmp order (inner a) (inner b)) (slice_cmp order (inner b) (inner c)) (slice_cmp order (inner a) (inner c))
+    (nat_list_cmp_total.trans (own a) (own b) (own c))
+    (λ same. ap (λ t. slice_cmp nat_cmp t (own c)) (numbers_exact (own a) (own b) same))
+    (λ same. ap (slice_cmp nat_cmp (own a)) (sym (numbers_exact (own b) (own c) same)))
+    (lists_chain (inner a) (inner b) (inner c) each)
+    (sym (order_is a b) ∙ e) (sym (order_is b c) ∙ f))
 
 pub order_total : IsTotalOrder order
 order_total = record {

@@ -55,7 +55,11 @@ pub fn canon(alloc: Global, ty: &Ty, values: &List<TypeId>) -> Result<Ty, Memory
 
 /// Each argument as code that is shared has it.
 #[cycle(canon)]
-pub fn canon_arguments(alloc: Global, args: &[Ty], values: &List<TypeId>) -> Result<List<Ty>, Memory>
+pub fn canon_arguments(
+    alloc: Global,
+    args: &[Ty],
+    values: &List<TypeId>,
+) -> Result<List<Ty>, Memory>
     ensures { IfOk result (λ args'. args' ≡ map (canonical_argument values.now) args.now) }
 {
     let mut done = List::new(alloc);

@@ -15,8 +15,7 @@ fn exact_order<T: Ord>()
     requires { (a b : T) → T.cmp a b ≡ Equal → a ≡ b }
     ensures order { IsExactOrder T.cmp }
     ensures equality { IsEquality T.eq }
-{
-}
+{}
 
 /// The order of types is total, and it and `==` tell any two types apart.
 pub fn type_order()
@@ -30,15 +29,13 @@ pub fn type_order()
 pub fn type_id_order()
     ensures order { IsExactOrder ⟦<TypeId as Ord>⟧.cmp }
     ensures equality { IsEquality ⟦<TypeId as PartialEq>⟧.eq }
-{
-}
+{}
 
 /// The same of the ids of methods.
 pub fn method_id_order()
     ensures order { IsExactOrder ⟦<MethodId as Ord>⟧.cmp }
     ensures equality { IsEquality ⟦<MethodId as PartialEq>⟧.eq }
-{
-}
+{}
 
 /// The same of the names of fields.
 pub fn field_name_order()
@@ -83,37 +80,31 @@ pub fn entry_order()
 /// A substitution after a substitution is one by the composed lists.
 pub fn subst_of_subst()
     ensures { (outer_owner outer_method owner method : List Ty) (ty : Ty) → IsTrue (has_variables_below (length owner) (length method) ty) → substituted outer_owner outer_method (substituted owner method ty) ≡ substituted (map (substituted outer_owner outer_method) owner) (map (substituted outer_owner outer_method) method) ty }
-{
-}
+{}
 
 /// A closed type is left alone by a substitution.
 pub fn subst_of_closed()
     ensures { (owner method : List Ty) (ty : Ty) → IsClosed ty → substituted owner method ty ≡ ty }
-{
-}
+{}
 
 /// Where the arguments have their variables below two numbers, what they are put into has too.
 pub fn variables_of_subst()
     ensures { (owner method : List Ty) (n m : ℕ) (ty : Ty) → IsTrue (has_variables_below (length owner) (length method) ty) → IsTrue (list_all (has_variables_below n m) owner) → IsTrue (list_all (has_variables_below n m) method) → IsTrue (has_variables_below n m (substituted owner method ty)) }
-{
-}
+{}
 
 /// The depth after a substitution: no less than before, and no more than a variable less and the deepest argument
 /// more.
 pub fn depth_of_subst()
     ensures no_less { (owner method : List Ty) (ty : Ty) → depth_of ty ≤ depth_of (substituted owner method ty) }
     ensures no_more { (owner method : List Ty) (ty : Ty) → depth_of (substituted owner method ty) + 1 ≤ depth_of ty + max 1 (depth_of_all (owner ++ method)) }
-{
-}
+{}
 
 /// A canonical type is its own canonical type.
 pub fn canon_of_canon()
     ensures { (values : List TypeId) (ty : Ty) → canonical values (canonical values ty) ≡ canonical values ty }
-{
-}
+{}
 
 /// A canonical form is its own canonical form.
 pub fn canon_of_canonical_form()
     ensures { (values : List TypeId) (name : MethodName) → canonical_form values (canonical_form values name) ≡ canonical_form values name }
-{
-}
+{}

@@ -34,7 +34,9 @@ pub fn node_depth(node: &Node) -> u32
     ensures { result ≡ min (depth_of_node node.now) 4294967295 }
 {
     match node {
-        Node::Method(method) | Node::Invoke(method) => depth(&method.owner).max(depth_all(method.args.as_slice())),
+        Node::Method(method) | Node::Invoke(method) => depth(&method.owner).max(depth_all(
+            method.args.as_slice(),
+        )),
         Node::Slot(slot) => depth(&slot.owner).max(depth_all(slot.args.as_slice())),
         Node::Blob(field) => depth(&field.owner),
         Node::Str(_) => 0,

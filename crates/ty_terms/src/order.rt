@@ -64,7 +64,11 @@ fn compare_all(a: &[Ty], b: &[Ty]) -> Ordering
             return found;
         }
     }
-    if a.len() < b.len() { Ordering::Less } else { Ordering::Equal }
+    if a.len() < b.len() {
+        Ordering::Less
+    } else {
+        Ordering::Equal
+    }
 }
 
 impl PartialEq for Ty {

@@ -1,4 +1,4 @@
-use Rattle.std.proofs.Common.{◌≡◌, sym, ap, ◌∙◌, map}
+use Rattle.std.proofs.Common.{sym, ap, ◌∙◌, map}
 use Rattle.ty_terms.specs.declared.ty.Ty.TheVariants.{Named}
 use Rattle.ty_terms.specs.Canon.{canonical, canonical_argument}
 use Rattle.ty_terms.proofs.CanonLaws.{canonical_named}

@@ -1,4 +1,4 @@
-use Rattle.std.proofs.Common.{◌≡◌, sym, ap, ◌∙◌}
+use Rattle.std.proofs.Common.{sym, ap, ◌∙◌}
 use Rattle.std.specs.List.{list_all}
 use Rattle.ty_terms.specs.Subst.{has_variables_below}
 use Rattle.ty_terms.proofs.SubstLaws.{below_named}
