@@ -7,196 +7,182 @@ use crate::{
     slot_order, subst, subst_all, subst_of_closed, subst_of_subst, type_id_order, type_order,
     variables_below, variables_of_subst,
 };
-use num_core::{List, Memory};
+use num_core::List;
 use std::alloc::Global;
-use std::test::Fail;
-
-const PAIR: TypeId = TypeId { module: 0, row: 1 };
-
-const LIST: TypeId = TypeId { module: 0, row: 2 };
+use std::process::Abort;
 
 const I4: Ty = Ty::Prim(Prim::I4);
 
 const STRING: Ty = Ty::Prim(Prim::String);
 
-fn one(alloc: Global, ty: Ty) -> Result<List<Ty>, Memory> {
+fn one(rt: &impl Abort, alloc: Global, ty: Ty) -> List<Ty> {
     let mut types = List::new(alloc);
-    types.push(ty).map_err(|_| Memory)?;
-    Ok(types)
+    assert!(rt; types.push(ty).is_ok());
+    types
 }
 
-fn two(alloc: Global, a: Ty, b: Ty) -> Result<List<Ty>, Memory> {
-    let mut types = one(alloc, a)?;
-    types.push(b).map_err(|_| Memory)?;
-    Ok(types)
+fn pair(rt: &impl Abort, alloc: Global, a: Ty, b: Ty) -> Ty {
+    let mut args = one(rt, alloc, a);
+    assert!(rt; args.push(b).is_ok());
+    Ty::Named(TypeId { module: 0, row: 1 }, args)
 }
 
-fn pair(alloc: Global, a: Ty, b: Ty) -> Result<Ty, Memory> {
-    Ok(Ty::Named(PAIR, two(alloc, a, b)?))
+fn list(rt: &impl Abort, alloc: Global, ty: Ty) -> Ty {
+    Ty::Named(TypeId { module: 0, row: 2 }, one(rt, alloc, ty))
 }
 
-fn list(alloc: Global, ty: Ty) -> Result<Ty, Memory> {
-    Ok(Ty::Named(LIST, one(alloc, ty)?))
+fn vector(rt: &impl Abort, alloc: Global, ty: Ty) -> Ty {
+    Ty::Vector(Boxed::new(alloc, ty).expect(rt, "memory"))
 }
 
-fn vector(alloc: Global, ty: Ty) -> Result<Ty, Memory> {
-    Ok(Ty::Vector(Boxed::new(alloc, ty)?))
-}
-
-fn by_ref(alloc: Global, ty: Ty) -> Result<Ty, Memory> {
-    Ok(Ty::ByRef(Boxed::new(alloc, ty)?))
-}
-
-fn method_name(alloc: Global, owner: Ty, arg: Ty) -> Result<MethodName, Memory> {
-    Ok(MethodName {
+fn method(rt: &impl Abort, alloc: Global, owner: Ty, arg: Ty) -> MethodName {
+    MethodName {
         owner,
         method: MethodId { module: 0, row: 7 },
-        args: one(alloc, arg)?,
-    })
+        args: one(rt, alloc, arg),
+    }
 }
 
 // `Pair<string,List<!0>>[]`, with the vector of `!!0` for `!0`.
 #[test]
-fn substitution(rt: HostRuntime) -> Result<(), Fail> {
+fn substitution(rt: HostRuntime) {
     let alloc = rt.alloc();
-    let open = vector(alloc, pair(alloc, STRING, list(alloc, Ty::Var(0))?)?)?;
-    assert_eq!(rt; depth(&open), 4);
-    let owner = one(alloc, vector(alloc, Ty::MVar(0))?)?;
-    let method = one(alloc, I4)?;
-    assert!(rt; variables_below(&open, 1, 0) && !variables_below(&open, 0, 1));
-    assert!(rt; all_variables_below(owner.as_slice(), 0, 1));
-    assert!(rt; variables_below(&open, owner.len(), method.len()));
-    let put = subst(alloc, &open, &owner, &method)?;
-    let want = vector(
+    let open = vector(
+        &rt,
         alloc,
-        pair(alloc, STRING, list(alloc, vector(alloc, Ty::MVar(0))?)?)?,
-    )?;
-    assert!(rt; put == want);
+        pair(&rt, alloc, STRING, list(&rt, alloc, Ty::Var(0))),
+    );
+    assert_eq!(rt; depth(&open), 4);
+    assert!(rt; !variables_below(&open, 0, 1));
+    let owner = one(&rt, alloc, vector(&rt, alloc, Ty::MVar(0)));
+    let method = one(&rt, alloc, I4);
+    assert!(rt; variables_below(&open, owner.len(), method.len()));
+    let put = subst(alloc, &open, &owner, &method).expect(&rt, "memory");
+    let inner = list(&rt, alloc, vector(&rt, alloc, Ty::MVar(0)));
+    assert!(rt; put == vector(&rt, alloc, pair(&rt, alloc, STRING, inner)));
     assert_eq!(rt; depth(&put), 5);
+}
+
+#[test]
+fn substitution_in_lists(rt: HostRuntime) {
+    let alloc = rt.alloc();
+    let owner = one(&rt, alloc, vector(&rt, alloc, Ty::MVar(0)));
+    let method = one(&rt, alloc, I4);
     assert!(rt; all_variables_below(owner.as_slice(), owner.len(), method.len()));
-    let closed = subst_all(alloc, owner.as_slice(), &owner, &method)?;
-    assert!(rt; closed == one(alloc, vector(alloc, I4)?)?);
+    let closed = subst_all(alloc, owner.as_slice(), &owner, &method).expect(&rt, "memory");
+    assert!(rt; closed == one(&rt, alloc, vector(&rt, alloc, I4)));
     assert_eq!(rt; depth_all(closed.as_slice()), 2);
-    Ok(())
+}
+
+fn shares(rt: &impl Abort, alloc: Global, ty: Ty, want: Ty, reference: bool) {
+    let values = List::from_slice(alloc, &[TypeId { module: 0, row: 1 }]).expect(rt, "memory");
+    assert_eq!(rt; is_reference(&ty, &values), reference);
+    let canonical = canon(alloc, &ty, &values).expect(rt, "memory");
+    assert!(rt; canonical == want);
 }
 
 // Arguments that are reference types are shared, and a vector's element is no argument.
 #[test]
-fn canonical_types(rt: HostRuntime) -> Result<(), Fail> {
+fn canonical_types(rt: HostRuntime) {
     let alloc = rt.alloc();
-    let values = List::from_slice(alloc, &[PAIR])?;
-    let rows = [
-        (vector(alloc, STRING)?, vector(alloc, STRING)?, true),
-        (list(alloc, STRING)?, list(alloc, Ty::Canon)?, true),
-        (list(alloc, I4)?, list(alloc, I4)?, true),
-        (
-            list(alloc, pair(alloc, STRING, I4)?)?,
-            list(alloc, pair(alloc, Ty::Canon, I4)?)?,
-            true,
-        ),
-        (
-            pair(alloc, list(alloc, I4)?, vector(alloc, I4)?)?,
-            pair(alloc, Ty::Canon, Ty::Canon)?,
-            false,
-        ),
-        (
-            by_ref(alloc, list(alloc, STRING)?)?,
-            by_ref(alloc, list(alloc, Ty::Canon)?)?,
-            false,
-        ),
-    ];
-    for (ty, want, reference) in &rows {
-        assert!(rt; canon(alloc, ty, &values)? == *want);
-        assert_eq!(rt; is_reference(ty, &values), *reference);
-    }
-    let args = two(alloc, STRING, pair(alloc, STRING, I4)?)?;
-    let shared = canon_arguments(alloc, args.as_slice(), &values)?;
-    assert!(rt; shared == two(alloc, Ty::Canon, pair(alloc, Ty::Canon, I4)?)?);
-    let name = method_name(alloc, list(alloc, STRING)?, vector(alloc, I4)?)?;
-    let form = canon_method(alloc, &name, &values)?;
-    assert!(rt; form == method_name(alloc, list(alloc, Ty::Canon)?, Ty::Canon)?);
-    Ok(())
+    shares(
+        &rt,
+        alloc,
+        vector(&rt, alloc, STRING),
+        vector(&rt, alloc, STRING),
+        true,
+    );
+    shares(
+        &rt,
+        alloc,
+        list(&rt, alloc, STRING),
+        list(&rt, alloc, Ty::Canon),
+        true,
+    );
+    shares(&rt, alloc, list(&rt, alloc, I4), list(&rt, alloc, I4), true);
+    let deep = list(&rt, alloc, pair(&rt, alloc, STRING, I4));
+    shares(
+        &rt,
+        alloc,
+        deep,
+        list(&rt, alloc, pair(&rt, alloc, Ty::Canon, I4)),
+        true,
+    );
+    let value = pair(&rt, alloc, list(&rt, alloc, I4), vector(&rt, alloc, I4));
+    shares(
+        &rt,
+        alloc,
+        value,
+        pair(&rt, alloc, Ty::Canon, Ty::Canon),
+        false,
+    );
+}
+
+#[test]
+fn canonical_forms(rt: HostRuntime) {
+    let alloc = rt.alloc();
+    let values = List::new(alloc);
+    let name = method(&rt, alloc, list(&rt, alloc, STRING), vector(&rt, alloc, I4));
+    let form = canon_method(alloc, &name, &values).expect(&rt, "memory");
+    assert!(rt; form == method(&rt, alloc, list(&rt, alloc, Ty::Canon), Ty::Canon));
+    let shared = canon_arguments(alloc, name.args.as_slice(), &values).expect(&rt, "memory");
+    assert!(rt; shared == form.args);
 }
 
 // By kind, then by numbers, then by what stands inside.
 #[test]
-fn order_and_copies(rt: HostRuntime) -> Result<(), Fail> {
+fn order_of_types(rt: HostRuntime) {
     let alloc = rt.alloc();
-    let types = [
-        Ty::Prim(Prim::Void),
-        STRING,
-        Ty::Named(PAIR, List::new(alloc)),
-        pair(alloc, I4, I4)?,
-        pair(alloc, I4, STRING)?,
-        list(alloc, I4)?,
-        list(alloc, list(alloc, I4)?)?,
-        vector(alloc, I4)?,
-        by_ref(alloc, I4)?,
-        Ty::Var(0),
-        Ty::Var(1),
-        Ty::MVar(0),
-        Ty::Canon,
-    ];
-    for (i, a) in types.iter().enumerate() {
-        for (j, b) in types.iter().enumerate() {
+    let mut types = one(&rt, alloc, STRING);
+    assert!(rt; types.push(pair(&rt, alloc, I4, I4)).is_ok());
+    assert!(rt; types.push(pair(&rt, alloc, I4, STRING)).is_ok());
+    assert!(rt; types.push(list(&rt, alloc, I4)).is_ok());
+    assert!(rt; types.push(vector(&rt, alloc, I4)).is_ok());
+    assert!(rt; types.push(Ty::Var(0)).is_ok());
+    assert!(rt; types.push(Ty::Var(1)).is_ok());
+    assert!(rt; types.push(Ty::MVar(0)).is_ok());
+    let copies = copy_all(alloc, types.as_slice()).expect(&rt, "memory");
+    for (i, a) in types.as_slice().iter().enumerate() {
+        for (j, b) in copies.as_slice().iter().enumerate() {
             assert!(rt; a.cmp(b) == i.cmp(&j), "{i} and {j}");
         }
-        assert!(rt; a.copy(alloc)? == *a);
     }
-    let copies = copy_all(alloc, &types)?;
-    assert!(rt; copies.as_slice() == &types[..]);
-    Ok(())
 }
 
 #[test]
-fn nodes(rt: HostRuntime) -> Result<(), Fail> {
+fn names_and_nodes(rt: HostRuntime) {
     let alloc = rt.alloc();
-    let name = method_name(alloc, list(alloc, STRING)?, I4)?;
+    let field = FieldName { owner: I4, row: 3 };
+    assert!(rt; field.copy(alloc).expect(&rt, "memory") == field);
     let slot = Slot {
-        owner: list(alloc, STRING)?,
+        owner: I4,
         method: MethodId { module: 0, row: 7 },
         args: List::new(alloc),
     };
-    let field = FieldName { owner: I4, row: 3 };
-    let nodes = [
-        Node::Method(name.copy(alloc)?),
-        Node::TypeOf(I4),
-        Node::Made(I4),
-        Node::Slot(slot.copy(alloc)?),
-        Node::Statics(I4),
-        Node::Init(I4),
-        Node::Str(List::from_slice(alloc, &[104, 105])?),
-        Node::Blob(field.copy(alloc)?),
-        Node::TypeObj(I4),
-        Node::Name(I4),
-        Node::Maker(I4),
-        Node::Invoke(name.copy(alloc)?),
-        Node::Table(I4),
-    ];
-    for (i, a) in nodes.iter().enumerate() {
-        for (j, b) in nodes.iter().enumerate() {
-            assert!(rt; a.cmp(b) == i.cmp(&j), "{i} and {j}");
-        }
-        assert!(rt; a.copy(alloc)? == *a);
-    }
-    assert_eq!(rt; node_depth(&nodes[0]), 2);
-    assert_eq!(rt; node_depth(&nodes[6]), 0);
-    let entry = DictEntry::OfSlot(slot);
-    assert!(rt; entry.copy(alloc)? == entry);
+    let entry = DictEntry::OfSlot(slot.copy(alloc).expect(&rt, "memory"));
+    assert!(rt; entry.copy(alloc).expect(&rt, "memory") == entry);
+    let node = Node::Method(method(&rt, alloc, list(&rt, alloc, STRING), I4));
+    assert!(rt; node.copy(alloc).expect(&rt, "memory") == node);
+    assert_eq!(rt; node_depth(&node), 2);
+    assert!(rt; node < Node::Slot(slot));
+}
+
+#[test]
+fn parts_and_warnings(rt: HostRuntime) {
+    let alloc = rt.alloc();
     let part = Part {
         at: 120,
         size: 8,
         kind: PartKind::Constant,
-        nodes: List::from_slice(alloc, &[4])?,
+        nodes: List::from_slice(alloc, &[4]).expect(&rt, "memory"),
     };
-    assert!(rt; part.copy(alloc)? == part);
+    assert!(rt; part.copy(alloc).expect(&rt, "memory") == part);
     let warning = Warning {
         number: 1,
-        method: name,
+        method: method(&rt, alloc, STRING, I4),
         offset: 5,
     };
-    assert!(rt; warning.copy(alloc)? == warning);
-    Ok(())
+    assert!(rt; warning.copy(alloc).expect(&rt, "memory") == warning);
 }
 
 // The laws have only a contract; each can be called.
