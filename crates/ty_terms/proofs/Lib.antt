@@ -1,0 +1,4 @@
+pub mod CanonLaws
+pub mod DepthLaws
+pub mod ExactLaws
+pub mod SubstLaws
