@@ -10,3 +10,6 @@ pub use body::{Body, Clause, ClauseKind, Instr, Operand};
 pub use opcode::{OPCODES, Op, OperandForm};
 pub use operation::Operation;
 pub use read::{BodyFault, instruction_at, tiny_code};
+
+#[cfg(test)]
+mod tests;

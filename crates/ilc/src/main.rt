@@ -66,3 +66,6 @@ fn word(alloc: Global, bytes: &[u8]) -> Result<Text, Memory> {
         Err(TextFault::Memory) => Err(Memory),
     }
 }
+
+#[cfg(test)]
+mod tests;

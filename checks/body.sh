@@ -1,0 +1,54 @@
+#!/usr/bin/env bash
+# Builds bodies with each form of `ldc.i4` by the built program, and compares what `ilc run` answers with the low
+# byte of the number and with what qemu-riscv64 answers of the same file; looks at the headers by readelf.
+set -u
+cd "$(dirname "$0")/.." || exit 2
+work=$(mktemp -d) || exit 2
+trap 'rm -rf "$work"' EXIT
+failed=0
+
+# a body and the low byte of its constant, as a script of whole numbers computes them
+python3 - >"$work/table" <<'P' || exit 1
+def tiny(code):
+    return bytes([len(code) * 4 + 2]) + code
+rows = []
+for i, n in enumerate(range(-1, 9)):
+    rows.append((bytes([0x15 + i, 0x2A]), n))
+for n in (-128, -1, 0, 42, 127):
+    rows.append((bytes([0x1F]) + n.to_bytes(1, "little", signed=True) + b"\x2A", n))
+for n in (-2**31, -2**31 + 255, -4096, -2049, -2048, -1, 0, 255, 256, 2047, 2048, 2049, 4095, 4096, 0x7FFFF7FF, 0x7FFFF800, 2**31 - 256, 2**31 - 1):
+    rows.append((bytes([0x20]) + n.to_bytes(4, "little", signed=True) + b"\x2A", n))
+for code, n in rows:
+    print(tiny(code).hex(), n % 256)
+P
+
+qemu=$(command -v qemu-riscv64) || echo "skipped: qemu-riscv64"
+readelf=$(command -v riscv64-linux-gnu-readelf) || echo "skipped: riscv64-linux-gnu-readelf"
+
+while read -r body expected; do
+  printf '%b' "$(sed 's/../\\x&/g' <<<"$body")" >"$work/body"
+  rm -f "$work/elf"
+  ./ilc body "$work/body" -o "$work/elf" || { echo "body $body: not built"; failed=1; continue; }
+  ./ilc run "$work/elf"
+  status=$?
+  [ "$status" -eq "$expected" ] || { echo "body $body: ilc run gives $status, not $expected"; failed=1; }
+  if [ -n "$qemu" ]; then
+    chmod +x "$work/elf"
+    "$qemu" "$work/elf"
+    status=$?
+    [ "$status" -eq "$expected" ] || { echo "body $body: qemu-riscv64 gives $status, not $expected"; failed=1; }
+  fi
+done <"$work/table"
+
+if [ -n "$readelf" ]; then
+  "$readelf" -lh "$work/elf" >"$work/headers" 2>&1
+  for wanted in 'ELF64' "little endian" 'EXEC (Executable file)' 'RISC-V' 'Entry point address: *0x100b0' 'Number of program headers: *2' 'LOAD  *0x0*0 0x0*10000 0x0*10000'; do
+    grep -q "$wanted" "$work/headers" || { echo "readelf doesn't show: $wanted"; failed=1; }
+  done
+  [ "$(grep -c '^ *LOAD' "$work/headers")" -eq 2 ] || { echo "readelf doesn't show two LOAD headers"; failed=1; }
+  grep -A1 '^ *LOAD' "$work/headers" | grep -q 'R E  *0x1000' || { echo "readelf shows no segment to execute"; failed=1; }
+  grep -A1 '^ *LOAD' "$work/headers" | grep -q 'RW  *0x1000' || { echo "readelf shows no segment to write"; failed=1; }
+fi
+
+[ "$failed" -eq 0 ] && echo "checks/body.sh: $(wc -l <"$work/table") bodies agree"
+exit "$failed"

@@ -1,0 +1,162 @@
+use crate::ilc;
+use ilc_io::{MemFiles, MemSink, MemSource};
+use num_core::{List, Text};
+use std::alloc::Global;
+use std::test::Fail;
+
+/// What a call gave: its status, what it printed, and what was printed as error text.
+struct Told {
+    status: u8,
+    out: MemSink,
+    err: MemSink,
+}
+
+fn text(alloc: Global, bytes: &[u8]) -> Result<Text, Fail> {
+    Ok(Text::new(alloc, bytes)?)
+}
+
+/// Calls `ilc` with the words of a line, which are parted by single spaces, over these files and no input.
+fn call(alloc: Global, files: &mut MemFiles, line: &str) -> Result<Told, Fail> {
+    let mut words = List::new(alloc);
+    for word in line.split(' ') {
+        words.push(text(alloc, word.as_bytes())?)?;
+    }
+    call_with(alloc, files, words.as_slice())
+}
+
+fn call_with(alloc: Global, files: &mut MemFiles, words: &[Text]) -> Result<Told, Fail> {
+    let mut input = MemSource::new(alloc, &[], &[])?;
+    let mut out = MemSink::new(alloc, &[])?;
+    let mut err = MemSink::new(alloc, &[])?;
+    let status = ilc(alloc, words, files, &mut input, &mut out, &mut err);
+    Ok(Told { status, out, err })
+}
+
+/// Files of which F has these bytes.
+fn with_body(alloc: Global, body: &[u8], fail: &[u64]) -> Result<MemFiles, Fail> {
+    let mut files = MemFiles::new(alloc, fail)?;
+    files.put(&text(alloc, b"F")?, body)?;
+    Ok(files)
+}
+
+/// The status of the program that is built of a body, or that of the refusal.
+fn built_and_run(alloc: Global, body: &[u8]) -> Result<u8, Fail> {
+    let mut files = with_body(alloc, body, &[])?;
+    let built = call(alloc, &mut files, "body F -o OUT")?;
+    if built.status != 0 {
+        return Ok(built.status);
+    }
+    Ok(call(alloc, &mut files, "run OUT")?.status)
+}
+
+/// Whether a call over a body gives this status and prints this line as error text, and creates nothing.
+fn refuses(alloc: Global, body: &[u8], words: &str, status: u8, line: &str) -> Result<bool, Fail> {
+    let mut files = with_body(alloc, body, &[])?;
+    let told = call(alloc, &mut files, words)?;
+    let created = files.get(&text(alloc, b"OUT")?).is_some();
+    Ok(told.status == status
+        && told.err.bytes() == line.as_bytes()
+        && told.out.bytes().is_empty()
+        && !created)
+}
+
+/// The four bytes of the first program: its constant is the status, and nothing is printed.
+#[test]
+fn a_constant_is_the_status(rt: HostRuntime) -> Result<(), Fail> {
+    let mut files = with_body(rt.alloc(), b"\x0E\x1F\x2A\x2A", &[])?;
+    let built = call(rt.alloc(), &mut files, "body F -o OUT")?;
+    assert_eq!(rt; built.status, 0);
+    assert!(rt; built.out.bytes().is_empty() && built.err.bytes().is_empty());
+    let told = call(rt.alloc(), &mut files, "run OUT")?;
+    assert_eq!(rt; told.status, 42);
+    assert!(rt; told.out.bytes().is_empty() && told.err.bytes().is_empty());
+    Ok(())
+}
+
+/// Each form of the load of a constant; the status is the low byte of the number.
+#[test]
+fn low_bytes(rt: HostRuntime) -> Result<(), Fail> {
+    let alloc = rt.alloc();
+    assert_eq!(rt; built_and_run(alloc, b"\x0A\x15\x2A")?, 255);
+    assert_eq!(rt; built_and_run(alloc, b"\x0A\x16\x2A")?, 0);
+    assert_eq!(rt; built_and_run(alloc, b"\x0A\x1E\x2A")?, 8);
+    assert_eq!(rt; built_and_run(alloc, b"\x0E\x1F\x80\x2A")?, 128);
+    assert_eq!(rt; built_and_run(alloc, b"\x1A\x20\xFF\xFF\xFF\x7F\x2A")?, 255);
+    assert_eq!(rt; built_and_run(alloc, b"\x1A\x20\x00\x00\x00\x80\x2A")?, 0);
+    assert_eq!(rt; built_and_run(alloc, b"\x1A\x20\x39\x30\x00\x00\x2A")?, 57);
+    Ok(())
+}
+
+#[test]
+fn refused_bodies(rt: HostRuntime) -> Result<(), Fail> {
+    let alloc = rt.alloc();
+    let words = "body F -o OUT";
+    assert!(rt; refuses(alloc, b"", words, 65, "ilc: 9 BadHeader F 0\n")?);
+    assert!(rt; refuses(alloc, b"\x0E\x1F\x2A", words, 65, "ilc: 9 BadHeader F 3\n")?);
+    assert!(rt; refuses(alloc, b"\x0E\x1F\x2A\x2A\x00", words, 65, "ilc: 9 BadHeader F 4\n")?);
+    let outside = "ilc: 24 OpcodeOutside [body]Body::Main()->System.Int32 ";
+    assert!(rt; refuses(alloc, b"\x06\x2A", words, 69, format!(in alloc; "{outside}0\n")?.as_str())?);
+    assert!(rt; refuses(alloc, b"\x0A\x1F\x2A", words, 69, format!(in alloc; "{outside}2\n")?.as_str())?);
+    assert!(rt; refuses(alloc, b"\x0E\x17\x17\x2A", words, 69, format!(in alloc; "{outside}1\n")?.as_str())?);
+    assert!(rt; refuses(alloc, b"\x0E\x17\x2A\x2A", words, 69, format!(in alloc; "{outside}2\n")?.as_str())?);
+    Ok(())
+}
+
+#[test]
+fn refused_words(rt: HostRuntime) -> Result<(), Fail> {
+    let alloc = rt.alloc();
+    let body = b"\x0E\x1F\x2A\x2A";
+    for (words, line) in [
+        ("", "ilc: usage 0\n"),
+        ("build F", "ilc: usage 0\n"),
+        ("body", "ilc: usage 1\n"),
+        ("body -o OUT", "ilc: usage 3\n"),
+        ("body F -o", "ilc: usage 3\n"),
+        ("body F G -o OUT", "ilc: usage 2\n"),
+        ("body F -x OUT", "ilc: usage 2\n"),
+        ("body -o OUT F -o OUT", "ilc: usage 4\n"),
+        ("run", "ilc: usage 1\n"),
+        ("run F G", "ilc: usage 2\n"),
+        ("run -v", "ilc: usage 1\n"),
+    ] {
+        assert!(rt; refuses(alloc, body, words, 64, line)?, "{words}");
+    }
+    let mut files = with_body(alloc, body, &[])?;
+    let told = call_with(alloc, &mut files, &[])?;
+    assert_eq!(rt; told.status, 64);
+    assert!(rt; told.err.bytes() == b"ilc: usage 0\n".as_slice());
+    assert!(rt; refuses(alloc, body, "body G -o OUT", 66, "ilc: nofile G\n")?);
+    assert!(rt; refuses(alloc, body, "run F", 65, "ilc: 30 BadElf F 0\n")?);
+    Ok(())
+}
+
+/// The words in the other order, and a file cut to 63 bytes, whose header is cut.
+#[test]
+fn a_cut_file(rt: HostRuntime) -> Result<(), Fail> {
+    let alloc = rt.alloc();
+    let mut files = with_body(alloc, b"\x0E\x1F\x2A\x2A", &[])?;
+    assert_eq!(rt; call(alloc, &mut files, "body -o OUT F")?.status, 0);
+    let elf = files.get(&text(alloc, b"OUT")?).ok_or("no file")?;
+    let cut = List::from_slice(alloc, elf.get(..63).ok_or("too short")?)?;
+    files.put(&text(alloc, b"OUT")?, cut.as_slice())?;
+    let told = call(alloc, &mut files, "run OUT")?;
+    assert_eq!(rt; told.status, 65);
+    assert!(rt; told.err.bytes() == b"ilc: 30 BadElf OUT 0\n".as_slice());
+    Ok(())
+}
+
+/// The first call asks for the size, the second reads, the third creates and the fourth appends.
+#[test]
+fn a_store_that_fails(rt: HostRuntime) -> Result<(), Fail> {
+    let alloc = rt.alloc();
+    let out = text(alloc, b"OUT")?;
+    for (call_number, status, created) in [(0, 74, false), (1, 74, false), (2, 73, false), (3, 73, true)] {
+        let mut files = with_body(alloc, b"\x0E\x1F\x2A\x2A", &[call_number])?;
+        let told = call(alloc, &mut files, "body F -o OUT")?;
+        assert_eq!(rt; told.status, status);
+        let line = if status == 74 { "ilc: read fault\n" } else { "ilc: write fault\n" };
+        assert!(rt; told.err.bytes() == line.as_bytes());
+        assert!(rt; files.get(&out).is_some() == created);
+    }
+    Ok(())
+}
