@@ -1,3 +1,5 @@
 pub mod Memory
 pub mod Steps
 pub mod Effects
+pub mod Exchanges
+pub mod Requests

@@ -30,6 +30,27 @@ pub found : (p : Segment → Bool) (segments : List Segment) (s : Segment) → f
 found p [] s e = cc
 found p (x ∷ segments) s e = found_here (p x) x s (find p segments) p refl (found p segments s) e
 
+bytes_at_place : (allows : Segment → Bool) (address count : ℕ) (d : Segment) (segments : List Segment) (i : ℕ) → i < length segments → allows (get_or segments i d) && covers address count (get_or segments i d) ≡ true → ((k : ℕ) → k < i → allows (get_or segments k d) && covers address count (get_or segments k d) ≡ false) → bytes_at allows address count segments ≡ Some (part address count (get_or segments i d))
+bytes_at_place allows address count d [] i lt here before = absurd (omega arith)
+bytes_at_place allows address count d (s ∷ segments) zero lt here before = ap (λ b. cond b (Some (part address count s)) (bytes_at allows address count segments)) here
+bytes_at_place allows address count d (s ∷ segments) (suc i) lt here before =
+    ap (λ b. cond b (Some (part address count s)) (bytes_at allows address count segments)) (before 0 (omega arith))
+    ∙ bytes_at_place allows address count d segments i (omega arith) here (λ k h. before (suc k) (omega arith))
+
+pub bytes_at_some : (access : Access) (address count : ℕ) (d : Segment) (segments : List Segment) (i : ℕ) → position (serves access address count) segments ≡ Some i → bytes_at (grants access) address count segments ≡ Some (part address count (get_or segments i d))
+bytes_at_some access address count d segments i is =
+    let at : (i < length segments) × (serves access address count (get_or segments i d) ≡ true) × ((k : ℕ) → k < i → serves access address count (get_or segments k d) ≡ false) = position-Some (serves access address count) segments i d is in
+    bytes_at_place (grants access) address count d segments i at.0 at.1 at.2
+
+no_bytes_here : (b : Bool) (n len : ℕ) (x : List ℕ) (others : Option (List ℕ)) → suc len ≤ cond (not b) (1 + n) 0 → (len ≤ n → others ≡ None) → cond b (Some x) others ≡ None
+no_bytes_here true n len x others past rest = absurd (omega arith)
+no_bytes_here false n len x others past rest = rest (omega arith)
+
+no_bytes : (access : Access) (address count : ℕ) (segments : List Segment) → length segments ≤ position_or_len (serves access address count) segments → bytes_at (grants access) address count segments ≡ None
+no_bytes access address count [] past = refl
+no_bytes access address count (s ∷ segments) past =
+    no_bytes_here (serves access address count s) (position_or_len (serves access address count) segments) (length segments) (part address count s) (bytes_at (grants access) address count segments) past (no_bytes access address count segments)
+
 -- ---- writing
 
 pub with_bytes_at_place : (allows : Segment → Bool) (address : ℕ) (bytes : List ℕ) (d : Segment) (segments : List Segment) (i : ℕ) → i < length segments → allows (get_or segments i d) && covers address (length bytes) (get_or segments i d) ≡ true → ((k : ℕ) → k < i → allows (get_or segments k d) && covers address (length bytes) (get_or segments k d) ≡ false) → with_bytes_at allows address bytes segments ≡ Some (set segments i (patched address bytes (get_or segments i d)))
@@ -56,6 +77,10 @@ pub with_bytes_at_none : (access : Access) (address : ℕ) (bytes : List ℕ) (s
 with_bytes_at_none access address bytes segments none =
     past_all access address bytes segments (past_when_none (position_or_len (serves access address (length bytes)) segments) (length segments) none)
 
+pub bytes_at_none : (access : Access) (address count : ℕ) (segments : List Segment) → position (serves access address count) segments ≡ None → bytes_at (grants access) address count segments ≡ None
+bytes_at_none access address count segments none =
+    no_bytes access address count segments (past_when_none (position_or_len (serves access address count) segments) (length segments) none)
+
 pub with_bytes_at_some : (access : Access) (address : ℕ) (bytes : List ℕ) (d : Segment) (segments : List Segment) (i : ℕ) → position (serves access address (length bytes)) segments ≡ Some i → with_bytes_at (grants access) address bytes segments ≡ Some (set segments i (patched address bytes (get_or segments i d)))
 with_bytes_at_some access address bytes d segments i is =
     let at : (i < length segments) × (serves access address (length bytes) (get_or segments i d) ≡ true) × ((k : ℕ) → k < i → serves access address (length bytes) (get_or segments k d) ≡ false) = position-Some (serves access address (length bytes)) segments i d is in
@@ -66,6 +91,12 @@ pub served : (access : Access) (address count : ℕ) (d : Segment) (segments : L
 served access address count d segments i is =
     let at : (i < length segments) × (serves access address count (get_or segments i d) ≡ true) × ((k : ℕ) → k < i → serves access address count (get_or segments k d) ≡ false) = position-Some (serves access address count) segments i d is in
     grind (arith, nat_tests)
+
+pub covered : (address count : ℕ) (s : Segment) → covers address count s ≡ true → (s.at ≤ address) × (address + count ≤ s.at + length s.bytes)
+covered address count s h =
+    let first : s.at ≤ address = grind (arith, nat_tests) in
+    let last : address + count ≤ s.at + length s.bytes = grind (arith, nat_tests) in
+    (first, last)
 
 -- the first of the bytes of a number
 pub take_bytes : (n k i x : ℕ) → n ≤ k → take n (bytes_low_first i k x) ≡ bytes_low_first i n x

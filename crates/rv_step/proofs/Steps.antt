@@ -31,11 +31,11 @@ step_of_illegal m word fetch decode s = ap (λ w. on_word w m s) fetch ∙ ap (�
 
 -- ---- exchanges
 
-nothing_taken : (o : Option (List ℕ)) → o ≡ option_map (λ rest. [] ++ rest) o
+pub nothing_taken : (o : Option (List ℕ)) → o ≡ option_map (λ rest. [] ++ rest) o
 nothing_taken None = refl
 nothing_taken (Some rest) = refl
 
-nothing_written : (o : Option (List ℕ)) → o ≡ option_map (λ bytes. bytes ++ []) o
+pub nothing_written : (o : Option (List ℕ)) → o ≡ option_map (λ bytes. bytes ++ []) o
 nothing_written None = refl
 nothing_written (Some bytes) = ap Some (sym (append-nil bytes))
 
@@ -46,11 +46,11 @@ exchanges_nothing o = record { taken = nothing_taken o.rest; output = nothing_wr
 abbrev pub then : Exchange → Exchange → Exchange
 then x y = record { taken = x.taken ++ y.taken; output = x.output ++ y.output; error = x.error ++ y.error }
 
-taken_then : (x y : List ℕ) (before mid now : Option (List ℕ)) → before ≡ option_map (λ rest. x ++ rest) mid → mid ≡ option_map (λ rest. y ++ rest) now → before ≡ option_map (λ rest. (x ++ y) ++ rest) now
+pub taken_then : (x y : List ℕ) (before mid now : Option (List ℕ)) → before ≡ option_map (λ rest. x ++ rest) mid → mid ≡ option_map (λ rest. y ++ rest) now → before ≡ option_map (λ rest. (x ++ y) ++ rest) now
 taken_then x y before mid None first second = first ∙ ap (option_map (λ rest. x ++ rest)) second
 taken_then x y before mid (Some rest) first second = first ∙ ap (option_map (λ rest. x ++ rest)) second ∙ ap Some (sym (append_assoc x y rest))
 
-written_then : (x y : List ℕ) (before mid now : Option (List ℕ)) → mid ≡ option_map (λ bytes. bytes ++ x) before → now ≡ option_map (λ bytes. bytes ++ y) mid → now ≡ option_map (λ bytes. bytes ++ (x ++ y)) before
+pub written_then : (x y : List ℕ) (before mid now : Option (List ℕ)) → mid ≡ option_map (λ bytes. bytes ++ x) before → now ≡ option_map (λ bytes. bytes ++ y) mid → now ≡ option_map (λ bytes. bytes ++ (x ++ y)) before
 written_then x y None mid now first second = second ∙ ap (option_map (λ bytes. bytes ++ y)) first
 written_then x y (Some bytes) mid now first second = second ∙ ap (option_map (λ bytes. bytes ++ y)) first ∙ ap Some (append_assoc bytes x y)
 

@@ -1,5 +1,5 @@
 -- The RV64IM machine: RISC-V unprivileged manual, chapters "RV32I", "RV64I" and "M".
-use Rattle.std.specs.Prelude.{ℕ, zero, suc, ◌+◌, ◌-◌, ◌*◌, ◌/◌, ◌%◌, ◌^◌, ℤ, pos, negsuc, ◌+ℤ◌, ◌-ℤ◌, ◌*ℤ◌, int_lt, int_div, int_rem, bit_and, bit_or, bit_xor, not, Bool, true, false, ◌&&◌, ◌==◌, nat_le, nat_lt, if◌then◌else◌, List, [], ◌∷◌, ◌++◌, length, take, drop, slice_index, slice_set, Option, Some, None}
+use Rattle.std.specs.Prelude.{ℕ, zero, suc, ◌+◌, ◌-◌, ◌*◌, ◌/◌, ◌%◌, ◌^◌, ℤ, pos, negsuc, ◌+ℤ◌, ◌-ℤ◌, ◌*ℤ◌, int_lt, int_div, int_rem, bit_and, bit_or, bit_xor, not, Bool, true, false, ◌&&◌, ◌==◌, nat_le, nat_lt, min, if◌then◌else◌, List, [], ◌∷◌, ◌++◌, length, take, drop, slice_index, slice_set, Option, Some, None}
 use Rattle.std.specs.Int.{cast_signed, int_shr, w8, w16, w32, w64}
 use Rattle.std.specs.Option.{option_map}
 use Rattle.byteorder.specs.Endian.{little_number, little_bytes}
@@ -8,6 +8,8 @@ use Rattle.rv_isa.specs.declared.ins.Ins.{Ins}
 use Rattle.rv_isa.specs.declared.ins.Ins.TheVariants.{Lui, Auipc, Jal, Jalr, Beq, Bne, Blt, Bge, Bltu, Bgeu, Lb, Lh, Lw, Ld, Lbu, Lhu, Lwu, Sb, Sh, Sw, Sd, Addi, Slti, Sltiu, Xori, Ori, Andi, Slli, Srli, Srai, Addiw, Slliw, Srliw, Sraiw, Add, Sll, Slt, Sltu, Xor, Srl, Or, And, Sub, Sra, Mul, Mulh, Mulhsu, Mulhu, Div, Divu, Rem, Remu, Addw, Sllw, Srlw, Subw, Sraw, Mulw, Divw, Divuw, Remw, Remuw, Ecall}
 use Rattle.rv_isa.specs.Parts.{parts_of}
 use Rattle.rv_isa.specs.Rows.{instruction}
+use Rattle.rv_step.specs.declared.calls.Request.{Request}
+use Rattle.rv_step.specs.declared.calls.Request.TheVariants.{Exit, ReadInput, WriteOutput, WriteError, Unknown}
 use Rattle.rv_step.specs.declared.segment.Segment.{Segment}
 use Rattle.rv_step.specs.declared.trap.Trap.{Trap}
 use Rattle.rv_step.specs.declared.trap.Cause.{Cause}
@@ -162,11 +164,67 @@ goes_on_with m (Some segments) streams =
 abbrev pub stores : MachineState → ℕ → ℕ → ℕ → Streams → Run MachineState Trap
 stores m count at value = goes_on_with m (with_bytes_at (λ s. s.write) at (little_bytes count value) m.segments)
 
--- a call of the environment: the one of number 93 ends with the low byte of a0 (x10), by its number in a7 (x17)
+-- ---- calls of the environment, by Linux's numbers in a7 (x17): 63 reads, 64 writes, 93 ends
+
+-- a buffer with what there is to read in its first places
+abbrev pub filled : List ℕ → List ℕ → List ℕ
+filled input buffer = take (length buffer) input ++ drop (length input) buffer
+
+-- goes on with so many bytes read, and gives a0 (x10) their number
+abbrev pub goes_on_read : MachineState → Option (List Segment) → ℕ → Streams → Run MachineState Trap
+goes_on_read m None count streams = traps m Store streams
+goes_on_read m (Some segments) count streams =
+    Running (record { pc = next_pc m; registers = with_register m.registers 10 count; segments = segments })
+    (record streams { input = drop count streams.input })
+
+abbrev pub reads_into : MachineState → Option (List ℕ) → Streams → Run MachineState Trap
+reads_into m None streams = traps m Store streams
+reads_into m (Some buffer) streams =
+    goes_on_read m (with_bytes_at (λ s. s.write) (register m 11) (filled streams.input buffer) m.segments)
+    (min (length buffer) (length streams.input)) streams
+
+-- reads into the a2 (x12) bytes from a1 (x11) on what there is, and no more than they hold
+abbrev pub reads : MachineState → Streams → Run MachineState Trap
+reads m streams =
+    if register m 12 == 0 then gives m 10 0 streams
+    else reads_into m (bytes_at (λ s. s.write) (register m 11) (register m 12) m.segments) streams
+
+abbrev pub to_output : List ℕ → Streams → Streams
+to_output bytes streams = record streams { output = streams.output ++ bytes }
+
+abbrev pub to_error : List ℕ → Streams → Streams
+to_error bytes streams = record streams { error = streams.error ++ bytes }
+
+abbrev pub writes_from : MachineState → (List ℕ → Streams → Streams) → Option (List ℕ) → Streams → Run MachineState Trap
+writes_from m to None streams = traps m Load streams
+writes_from m to (Some bytes) streams = gives m 10 (register m 12) (to bytes streams)
+
+-- writes the a2 bytes from a1 on, and gives a0 their number
+abbrev pub writes : MachineState → (List ℕ → Streams → Streams) → Streams → Run MachineState Trap
+writes m to streams =
+    if register m 12 == 0 then gives m 10 0 streams
+    else writes_from m to (bytes_at (λ s. s.read) (register m 11) (register m 12) m.segments) streams
+
+-- by the number in a7, and by a0, which says what is read (0, the input) or written to (1, the output; 2, the
+-- error text)
+abbrev pub request : ℕ → ℕ → Request
+request number a0 =
+    if number == 93 then Exit
+    else if number == 63 && a0 == 0 then ReadInput
+    else if number == 64 && a0 == 1 then WriteOutput
+    else if number == 64 && a0 == 2 then WriteError
+    else Unknown
+
+-- the call that ends does so with the low byte of a0
+abbrev pub answers : Request → MachineState → Streams → Run MachineState Trap
+answers Exit m streams = Ended (register m 10 % 256) streams
+answers ReadInput m streams = reads m streams
+answers WriteOutput m streams = writes m to_output streams
+answers WriteError m streams = writes m to_error streams
+answers Unknown m streams = traps m Call streams
+
 abbrev pub environment_call : MachineState → Streams → Run MachineState Trap
-environment_call m streams =
-    if register m 17 == 93 then Ended (register m 10 % 256) streams
-    else traps m Call streams
+environment_call m = answers (request (register m 17) (register m 10)) m
 
 -- what each instruction does
 abbrev pub effect : Ins → MachineState → Streams → Run MachineState Trap

@@ -1,9 +1,10 @@
 -- What one step of the machine does in the midst of a run, where the input isn't yet known beyond what was read.
-use Rattle.std.specs.Prelude.{◌≡◌, ℕ, Bool, true, List, [], ◌++◌, length, Option, None, Some, Result, Ok, Err, IfSome, IfErr, OnOk, OnErr}
+use Rattle.std.specs.Prelude.{◌≡◌, ℕ, Bool, true, List, [], ◌++◌, length, drop, Option, None, Some, Result, Ok, Err, IfSome, IfErr, OnOk, OnErr}
 use Rattle.std.specs.Option.{option_map}
 use Rattle.num_core.specs.Run.{Run, Running, Ended, Stopped, Streams, Outside}
-use Rattle.rv_step.specs.Machine.{MachineState, traps}
+use Rattle.rv_step.specs.Machine.{MachineState, traps, overwritten, bytes_at, with_bytes_at}
 use Rattle.rv_step.specs.Outcomes.{SameButBuffer, Continues}
+use Rattle.rv_step.specs.declared.segment.Segment.{Segment}
 use Rattle.rv_step.specs.declared.trap.Trap.{Trap}
 use Rattle.rv_step.specs.declared.trap.Cause.{Cause}
 use Rattle.rv_step.specs.declared.fault.StepFault.{StepFault}
@@ -99,3 +100,38 @@ abbrev pub run_fault : StepFault → RunFault
 run_fault (Trapped trap) = RunTrapped trap
 run_fault ReadFault = RunReadFault
 run_fault WriteFault = RunWriteFault
+
+-- ---- reading and writing
+
+-- all of the bytes were written, or the first of them
+abbrev pub Wrote : List ℕ → Option (List ℕ) → Option (List ℕ) → Type 0
+Wrote bytes before now = now ≡ option_map (λ written. written ++ bytes) before
+
+pub record WroteSome (bytes : List ℕ) (before now : Option (List ℕ)) : Type 0 where
+  pub got : List ℕ
+  pub begun : Continues got bytes
+  pub wrote : Wrote got before now
+
+-- From a source the bytes `taken` were taken, where `before` and `now` are what it tells.
+pub record Takes (taken : List ℕ) (ended at_end : Bool) (before now : Option (List ℕ)) : Type 0 where
+  pub exchanged : before ≡ option_map (λ rest. taken ++ rest) now
+  pub stays_ended : ended ≡ true → at_end ≡ true
+  pub takes_nothing : ended ≡ true → taken ≡ []
+  pub end_is_true : at_end ≡ true → IfSome now (λ rest. rest ≡ [])
+
+-- so many bytes were read to a place
+pub record FilledBytes (got from : ℕ) (old new : List ℕ) (ended at_end : Bool) (before now : Option (List ℕ)) : Type 0 where
+  pub taken : List ℕ
+  pub so_many : length taken ≡ got
+  pub bytes : new ≡ overwritten from taken old
+  pub takes : Takes taken ended at_end before now
+
+-- so many bytes were read to an address, into a buffer of `count` bytes
+pub record FilledSegments (got address count : ℕ) (old new : List Segment) (ended at_end : Bool) (before now : Option (List ℕ)) : Type 0 where
+  pub taken : List ℕ
+  pub so_many : length taken ≡ got
+  pub buffer : List ℕ
+  pub there : bytes_at (λ s. s.write) address count old ≡ Some buffer
+  pub size : length buffer ≡ count
+  pub written : with_bytes_at (λ s. s.write) address (taken ++ drop got buffer) old ≡ Some new
+  pub takes : Takes taken ended at_end before now

@@ -1,6 +1,6 @@
 ghost use Rattle.std.specs.Prelude.{◌≡◌, ◌≢◌, ◌⊎◌, ◌≤◌};
 ghost use Rattle.ilc_io.specs.Count.{HasRisen};
-ghost use Rattle.rv_step.specs.Machine.{machine_step, effect, environment_call};
+ghost use Rattle.rv_step.specs.Machine.{machine_step, effect};
 ghost use Rattle.rv_step.specs.Outcomes.{outside};
 ghost use Rattle.rv_step.specs.Steps.{Does, StepAnswers, EndIsTrue};
 
@@ -9,16 +9,7 @@ use crate::machine::Machine;
 use crate::trap::Cause;
 use crate::value;
 use ilc_io::{Sink, Source};
-use rv_isa::{Ins, Register, decode};
-
-/// The register of an argument, and of the answer.
-const A0: u8 = 10;
-
-/// The register of the number of the environment's call.
-const A7: u8 = 17;
-
-/// The number of the environment's call that ends the program.
-const EXIT: u64 = 93;
+use rv_isa::{Ins, decode};
 
 impl Machine {
     /// One step in the midst of a run. `at_end` says whether the source has said that it is at its end;
@@ -251,29 +242,6 @@ impl Machine {
                 value::rem_word_unsigned(self.get(rs1), self.get(rs2)),
             ),
             Ins::Ecall => unreachable!(),
-        }
-    }
-
-    /// Does the call of the environment whose number is in a7.
-    #[inline(never)]
-    fn call<I: Source, O: Sink, E: Sink>(
-        &mut self,
-        input: &mut I,
-        out: &mut O,
-        err: &mut E,
-        at_end: &mut bool,
-    ) -> Result<Option<u8>, StepFault>
-        requires { EndIsTrue at_end.old (outside (I.rest input.old) (O.written out.old) (E.written err.old)) }
-        ensures answers { StepAnswers (environment_call self.old) result at_end.old at_end.new self.old self.new (outside (I.rest input.old) (O.written out.old) (E.written err.old)) (outside (I.rest input.new) (O.written out.new) (E.written err.new)) }
-        ensures read_fault { result ≡ Err StepFault.ReadFault → HasRisen (I.faults input.old) (I.faults input.new) }
-        ensures write_fault { result ≡ Err StepFault.WriteFault → HasRisen (O.faults out.old) (O.faults out.new) ⊎ HasRisen (E.faults err.old) (E.faults err.new) }
-        ensures input_faults { I.faults input.old ≤ I.faults input.new }
-        ensures output_faults { O.faults out.old ≤ O.faults out.new }
-        ensures error_faults { E.faults err.old ≤ E.faults err.new }
-    {
-        match self.get(Register::of(A7)) {
-            EXIT => Ok(Some((self.get(Register::of(A0)) % 256) as u8)),
-            _ => Err(StepFault::Trap(self.trap(Cause::Call))),
         }
     }
 }

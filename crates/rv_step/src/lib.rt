@@ -1,8 +1,10 @@
 //! The RV64IM machine: RISC-V unprivileged manual, chapters "RV32I", "RV64I" and "M".
 #![tactic(auto)]
 
+mod calls;
 mod execute;
 mod fault;
+mod fill;
 mod load;
 mod machine;
 mod run;

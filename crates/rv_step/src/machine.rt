@@ -1,13 +1,16 @@
-ghost use Rattle.std.specs.Prelude.{◌≡◌, ◌<◌, ℕ, All, AllPairs, IfOk, IfSome, length, option_copied, replicate, not, Some, None};
+ghost use Rattle.std.specs.Prelude.{◌≡◌, ◌<◌, ℕ, All, AllPairs, OnErr, ◌⊎◌, ◌≤◌, [], true, IfOk, IfSome, length, option_copied, replicate, not, Some, None};
 ghost use Rattle.std.specs.Bool.{OnTrue, OnFalse};
-ghost use Rattle.rv_step.specs.Machine.{MachineState, fetched, register as value_of, next_pc, gives, jumps, branches, bytes_at as are_bytes_at, with_bytes_at, address as address_of};
-ghost use Rattle.rv_step.specs.Steps.{Does};
+ghost use Rattle.rv_step.specs.Machine.{MachineState, fetched, register as value_of, next_pc, with_register, gives, jumps, branches, bytes_at as are_bytes_at, with_bytes_at, address as address_of};
+ghost use Rattle.rv_step.specs.Steps.{Does, FilledSegments};
+ghost use Rattle.ilc_io.specs.Count.{HasRisen};
 ghost use Rattle.rv_step.specs.Segments.{AreDisjoint, DoesNotWrap};
 
+use crate::fill::fill;
 use crate::segment::{Access, Segment, bytes_at, write_bytes};
 use crate::trap::{Cause, Trap};
 use crate::value;
 use byteorder::{ByteOrder, LittleEndian};
+use ilc_io::{Failed, Source};
 use num_core::{List, Memory};
 use rv_isa::{BranchOffset, Immediate, Register};
 use std::alloc::Global;
@@ -80,6 +83,30 @@ impl Machine {
         write_bytes(self.segments.as_mut_slice(), address, bytes)
     }
 
+    /// Reads what there is into so many bytes from an address on, if they lie in one segment that may
+    /// be written, and gives how many were read.
+    pub(crate) fn fill<I: Source>(
+        &mut self,
+        address: u64,
+        count: u64,
+        input: &mut I,
+        at_end: &mut bool,
+    ) -> Result<Option<u64>, Failed>
+        requires { at_end.old ≡ true → IfSome (I.rest input.old) (λ rest. rest ≡ []) }
+        ensures filled { IfOk result (λ found. IfSome found (λ got. (got ≤ count) × FilledSegments got address count self.old.segments self.new.segments at_end.old at_end.new (I.rest input.old) (I.rest input.new))) }
+        ensures whole { IfOk result (λ found. IfSome found (λ got. (got ≡ count) ⊎ (at_end.new ≡ true))) }
+        ensures nowhere { result ≡ Ok None → are_bytes_at (λ s. s.write) address count self.old.segments ≡ None }
+        ensures same { result ≡ Ok None → (self.new ≡ self.old) × (at_end.new ≡ at_end.old) × (I.rest input.new ≡ I.rest input.old) }
+        ensures broken_off { OnErr result ((got : ℕ) × (got ≤ count) × FilledSegments got address count self.old.segments self.new.segments at_end.old at_end.new (I.rest input.old) (I.rest input.new)) }
+        ensures asked { OnErr result (at_end.old ≡ true → ⊥) }
+        ensures pc { self.new.pc ≡ self.old.pc }
+        ensures registers { self.new.registers ≡ self.old.registers }
+        ensures failed { OnErr result (HasRisen (I.faults input.old) (I.faults input.new)) }
+        ensures faults_kept { I.faults input.old ≤ I.faults input.new }
+    {
+        fill(self.segments.as_mut_slice(), address, count, input, at_end)
+    }
+
     /// Goes on to the next instruction.
     #[inline]
     pub(crate) fn go_on(&mut self)
@@ -124,11 +151,7 @@ impl Machine {
     pub(crate) fn jump(&mut self, register: Register, target: u64) -> Result<(), Cause>
         ensures { Does (jumps self.old register target) result self.old self.new }
     {
-        let next = self.pc.wrapping_add(4);
-        let index = register.index();
-        if index != 0 {
-            self.registers[index] = next;
-        }
+        self.put(register, self.pc.wrapping_add(4));
         self.pc = target;
         Ok(())
     }
@@ -154,16 +177,24 @@ impl Machine {
         self.branch_if(!test, distance)
     }
 
-    /// Puts a value in a register, but for x0, and goes on to the next instruction.
+    /// Puts a value in a register, but for x0.
     #[inline]
-    pub(crate) fn give(&mut self, register: Register, value: u64) -> Result<(), Cause>
-        ensures { Does (gives self.old register value) result self.old self.new }
+    pub(crate) fn put(&mut self, register: Register, value: u64)
+        ensures { self.new ≡ record self.old { registers = with_register self.old.registers register value } }
     {
         let index = register.index();
         if index != 0 {
             self.registers[index] = value;
         }
-        self.pc = self.pc.wrapping_add(4);
+    }
+
+    /// Puts a value in a register, but for x0, and goes on to the next instruction.
+    #[inline]
+    pub(crate) fn give(&mut self, register: Register, value: u64) -> Result<(), Cause>
+        ensures { Does (gives self.old register value) result self.old self.new }
+    {
+        self.put(register, value);
+        self.go_on();
         Ok(())
     }
 }

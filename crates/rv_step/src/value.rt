@@ -352,11 +352,8 @@ pub(crate) fn div_word(x: u64, y: u64) -> u64
     if y == 0 {
         return u64::MAX;
     }
-    extend_word(
-        x.cast_signed()
-            .wrapping_div(y.cast_signed())
-            .cast_unsigned(),
-    )
+    let quotient = x.cast_signed().wrapping_div(y.cast_signed());
+    extend_word(quotient.cast_unsigned())
 }
 
 /// The remainder in 32 bits, both signed.
@@ -368,11 +365,8 @@ pub(crate) fn rem_word(x: u64, y: u64) -> u64
     if y == 0 {
         return extend_word(x);
     }
-    extend_word(
-        x.cast_signed()
-            .wrapping_rem(y.cast_signed())
-            .cast_unsigned(),
-    )
+    let remainder = x.cast_signed().wrapping_rem(y.cast_signed());
+    extend_word(remainder.cast_unsigned())
 }
 
 /// The quotient in 32 bits, both unsigned.
