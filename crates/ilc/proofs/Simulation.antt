@@ -12,8 +12,7 @@ use Rattle.il_code.specs.Operations.{int32}
 use Rattle.rv_isa.specs.declared.ins.Ins.{Ins}
 use Rattle.rv_isa.specs.declared.ins.Ins.TheVariants.{Lui, Addi, Addiw, Ecall}
 use Rattle.rv_isa.specs.Instructions.{word_of, IsLegal}
-use Rattle.rv_step.specs.Machine.{MachineState, machine_step, effect, register, low_bits, low_word, next_pc, with_register, traps}
-use Rattle.rv_step.specs.declared.trap.Cause.TheVariants.{Call}
+use Rattle.rv_step.specs.Machine.{MachineState, machine_step, effect, register, low_bits, low_word, next_pc, with_register, request, answers}
 use Rattle.rv_step.specs.declared.trap.Trap.{Trap}
 use Rattle.ilc.specs.Cil.{CilState, CilCause, cil_step, cil_start, Frame, Slot, Int32, on_instruction, performs}
 use Rattle.ilc.specs.Code.{code_of, text_of, upper, lower, optional_code, instr_code}
@@ -111,7 +110,7 @@ machine_return n front m streams at has value =
     let a0 : register m1 10 ≡ low_bits 64 n = register_other 17 10 v m m1 (omega arith) gets1 ∙ value in
     let step2 : machine_step m1 streams ≡ effect Ecall m1 streams = steps_at front (program n) 3 m1 streams Ecall at1 refl tt (omega arith) in
     ap (one_more machine_step) step1 ∙ step2
-    ∙ ap (λ x. cond (nat_eq x 93) (Ended (register m1 10 % 256) streams) (traps m1 Call streams)) number
+    ∙ ap (λ x. answers (request x (register m1 10)) m1 streams) number
     ∙ ap (λ x. Ended (x % 256) streams) a0
     ∙ ap (λ x. Ended x streams) (low_byte n)
 
