@@ -5,6 +5,7 @@ use std::alloc::Global;
 use std::test::Fail;
 
 /// What a call gave: its status, what it printed, and what was printed as error text.
+#[derive(Drop)]
 struct Told {
     status: u8,
     out: MemSink,
@@ -54,10 +55,12 @@ fn refuses(alloc: Global, body: &[u8], words: &str, status: u8, line: &str) -> R
     let mut files = with_body(alloc, body, &[])?;
     let told = call(alloc, &mut files, words)?;
     let created = files.get(&text(alloc, b"OUT")?).is_some();
-    Ok(told.status == status
-        && told.err.bytes() == line.as_bytes()
-        && told.out.bytes().is_empty()
-        && !created)
+    Ok(
+        told.status == status
+            && told.err.bytes() == line.as_bytes()
+            && told.out.bytes().is_empty()
+            && !created,
+    )
 }
 
 /// The four bytes of the first program: its constant is the status, and nothing is printed.
@@ -93,12 +96,52 @@ fn refused_bodies(rt: HostRuntime) -> Result<(), Fail> {
     let words = "body F -o OUT";
     assert!(rt; refuses(alloc, b"", words, 65, "ilc: 9 BadHeader F 0\n")?);
     assert!(rt; refuses(alloc, b"\x0E\x1F\x2A", words, 65, "ilc: 9 BadHeader F 3\n")?);
-    assert!(rt; refuses(alloc, b"\x0E\x1F\x2A\x2A\x00", words, 65, "ilc: 9 BadHeader F 4\n")?);
+    assert!(rt;
+        refuses(
+            alloc,
+            b"\x0E\x1F\x2A\x2A\x00",
+            words,
+            65,
+            "ilc: 9 BadHeader F 4\n"
+        )?
+    );
     let outside = "ilc: 24 OpcodeOutside [body]Body::Main()->System.Int32 ";
-    assert!(rt; refuses(alloc, b"\x06\x2A", words, 69, format!(in alloc; "{outside}0\n")?.as_str())?);
-    assert!(rt; refuses(alloc, b"\x0A\x1F\x2A", words, 69, format!(in alloc; "{outside}2\n")?.as_str())?);
-    assert!(rt; refuses(alloc, b"\x0E\x17\x17\x2A", words, 69, format!(in alloc; "{outside}1\n")?.as_str())?);
-    assert!(rt; refuses(alloc, b"\x0E\x17\x2A\x2A", words, 69, format!(in alloc; "{outside}2\n")?.as_str())?);
+    assert!(rt;
+        refuses(
+            alloc,
+            b"\x06\x2A",
+            words,
+            69,
+            format!(in alloc; "{outside}0\n")?.as_str()
+        )?
+    );
+    assert!(rt;
+        refuses(
+            alloc,
+            b"\x0A\x1F\x2A",
+            words,
+            69,
+            format!(in alloc; "{outside}2\n")?.as_str()
+        )?
+    );
+    assert!(rt;
+        refuses(
+            alloc,
+            b"\x0E\x17\x17\x2A",
+            words,
+            69,
+            format!(in alloc; "{outside}1\n")?.as_str()
+        )?
+    );
+    assert!(rt;
+        refuses(
+            alloc,
+            b"\x0E\x17\x2A\x2A",
+            words,
+            69,
+            format!(in alloc; "{outside}2\n")?.as_str()
+        )?
+    );
     Ok(())
 }
 
@@ -150,11 +193,20 @@ fn a_cut_file(rt: HostRuntime) -> Result<(), Fail> {
 fn a_store_that_fails(rt: HostRuntime) -> Result<(), Fail> {
     let alloc = rt.alloc();
     let out = text(alloc, b"OUT")?;
-    for (call_number, status, created) in [(0, 74, false), (1, 74, false), (2, 73, false), (3, 73, true)] {
+    for (call_number, status, created) in [
+        (0, 74, false),
+        (1, 74, false),
+        (2, 73, false),
+        (3, 73, true),
+    ] {
         let mut files = with_body(alloc, b"\x0E\x1F\x2A\x2A", &[call_number])?;
         let told = call(alloc, &mut files, "body F -o OUT")?;
         assert_eq!(rt; told.status, status);
-        let line = if status == 74 { "ilc: read fault\n" } else { "ilc: write fault\n" };
+        let line = if status == 74 {
+            "ilc: read fault\n"
+        } else {
+            "ilc: write fault\n"
+        };
         assert!(rt; told.err.bytes() == line.as_bytes());
         assert!(rt; files.get(&out).is_some() == created);
     }

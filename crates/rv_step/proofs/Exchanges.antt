@@ -64,8 +64,8 @@ overwritten_more from taken piece old h =
     let len : length front ≡ from + length taken = front_kept from taken old h in
     let first : take (from + length taken) (front ++ rest) ≡ front = ap (λ n. take n (front ++ rest)) (sym len) ∙ take-append_seam front rest in
     let last : drop (from + length taken + length piece) (front ++ rest) ≡ drop (from + length (taken ++ piece)) old =
-      ap (λ n. drop (n + length piece) (front ++ rest)) (sym len) ∙ drop-append-add front rest (length piece)
-      ∙ grind (arith, common_steps) in
+    ap (λ n. drop (n + length piece) (front ++ rest)) (sym len) ∙ drop-append-add front rest (length piece)
+    ∙ grind (arith, common_steps) in
     ap (λ xs. xs ++ piece ++ drop (from + length taken + length piece) (front ++ rest)) first
     ∙ ap (λ ys. front ++ piece ++ ys) last
     ∙ ap (λ xs. xs ++ drop (from + length (taken ++ piece)) old) (append_assoc (take from old) taken piece)
@@ -76,7 +76,7 @@ read_from read into new (Some left) r2 within same exact taken =
     let reads : Reads left into new read = exact left refl in
     let len : length (take read left) ≡ read = omega (arith, length-take read left, reads.available) in
     let got : take read new ≡ take read left =
-      ap (take read) reads.bytes ∙ ap (λ n. take n (take read left ++ drop read into)) (sym len) ∙ take-append_seam (take read left) (drop read into) in
+    ap (take read) reads.bytes ∙ ap (λ n. take n (take read left ++ drop read into)) (sym len) ∙ take-append_seam (take read left) (drop read into) in
     sym (ap (option_map (λ rest. take read new ++ rest)) taken ∙ ap Some (ap (λ xs. xs ++ drop read left) got ∙ take-append-drop read left))
 
 ended_there : (read : ℕ) (into new : List ℕ) (r1 r2 : Option (List ℕ)) → 0 < length into → ((left : List ℕ) → r1 ≡ Some left → Reads left into new read) → r2 ≡ option_map (λ rest. drop read rest) r1 → read ≡ 0 → IfSome r2 (λ rest. rest ≡ [])
@@ -110,9 +110,9 @@ filled_more got from read old mid now into new ended r0 r1 r2 f inside room with
       taken = f.taken ++ piece;
       so_many = length-append f.taken piece ∙ ap (λ n. n + length piece) f.so_many ∙ ap (λ n. got + n) so_many;
       bytes =
-        written ∙ ap (λ n. overwritten (from + n) piece mid) (sym f.so_many)
-        ∙ ap (λ xs. overwritten (from + length f.taken) piece xs) f.bytes
-        ∙ overwritten_more from f.taken piece old inside;
+          written ∙ ap (λ n. overwritten (from + n) piece mid) (sym f.so_many)
+          ∙ ap (λ xs. overwritten (from + length f.taken) piece xs) f.bytes
+          ∙ overwritten_more from f.taken piece old inside;
       takes = record {
         exchanged = taken_then f.taken piece r0 r1 r2 f.takes.exchanged (read_from read into new r1 r2 within same exact taken);
         stays_ended = λ h. absurd (never h);
@@ -136,7 +136,7 @@ filled_step from at end read wanted old mid now piece new ended at_end r0 r1 r2 
     let f' : FilledBytes (at - from) from old mid ended false r0 r1 = subst (λ b. FilledBytes (at - from) from old mid ended b r0 r1) goes f in
     let is : now ≡ overwritten (from + (at - from)) (take read new) mid = written ∙ ap (λ xs. overwritten at xs mid) front ∙ ap (λ n. overwritten n (take read new) mid) there in
     let more : FilledBytes ((at - from) + read) from old now ended (read == 0) r0 r2 =
-      filled_more (at - from) from read old mid now (take wanted piece) new ended r0 r1 r2 f' inside some within same exact taken is in
+    filled_more (at - from) from read old mid now (take wanted piece) new ended r0 r1 r2 f' inside some within same exact taken is in
     let count : (at - from) + read ≡ at + read - from = omega arith in
     (up_to, omega (arith, kept, room), subst (λ n. FilledBytes n from old now ended (read == 0) r0 r2) count more)
 
@@ -179,8 +179,8 @@ filled_segments got address count place d segments now ended at_end r0 r1 is few
     let whole_size : length whole ≡ count = omega (arith, length-append f.taken (drop got buffer), length-drop got buffer, size, f.so_many, few) in
     let same_place : position (serves Write address (length whole)) segments ≡ Some place = ap (λ n. position (serves Write address n) segments) whole_size ∙ is in
     let same_bytes : overwritten from whole s.bytes ≡ now =
-      ap (λ n. overwritten from (f.taken ++ drop n buffer) s.bytes) (sym f.so_many)
-      ∙ overwritten_rest from count f.taken s.bytes few_taken room ∙ sym f.bytes in
+    ap (λ n. overwritten from (f.taken ++ drop n buffer) s.bytes) (sym f.so_many)
+    ∙ overwritten_rest from count f.taken s.bytes few_taken room ∙ sym f.bytes in
     record {
       taken = f.taken;
       so_many = f.so_many;

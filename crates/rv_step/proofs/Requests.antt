@@ -59,9 +59,9 @@ wrote_output m new bytes ended rest error before now some there is wrote end =
     record {
       x = x;
       leads = λ more output err h.
-        writes_some m to_output bytes some there (streams_before x more output err)
-        ∙ ap (λ machine. Running machine (to_output bytes (streams_before x more output err))) (sym is)
-        ∙ ap (λ e. Running new (record { input = more; output = output ++ bytes; error = e })) (sym (append-nil err));
+          writes_some m to_output bytes some there (streams_before x more output err)
+          ∙ ap (λ machine. Running machine (to_output bytes (streams_before x more output err))) (sym is)
+          ∙ ap (λ e. Running new (record { input = more; output = output ++ bytes; error = e })) (sym (append-nil err));
       exchanged = record { taken = nothing_taken rest; output = wrote; error = nothing_written error };
       stays_ended = λ h. h;
       takes_nothing = λ h. refl;
@@ -74,9 +74,9 @@ wrote_error m new bytes ended rest output before now some there is wrote end =
     record {
       x = x;
       leads = λ more out error h.
-        writes_some m to_error bytes some there (streams_before x more out error)
-        ∙ ap (λ machine. Running machine (to_error bytes (streams_before x more out error))) (sym is)
-        ∙ ap (λ o. Running new (record { input = more; output = o; error = error ++ bytes })) (sym (append-nil out));
+          writes_some m to_error bytes some there (streams_before x more out error)
+          ∙ ap (λ machine. Running machine (to_error bytes (streams_before x more out error))) (sym is)
+          ∙ ap (λ o. Running new (record { input = more; output = o; error = error ++ bytes })) (sym (append-nil out));
       exchanged = record { taken = nothing_taken rest; output = nothing_written output; error = wrote };
       stays_ended = λ h. h;
       takes_nothing = λ h. refl;
@@ -91,8 +91,8 @@ broke_output m bytes rest error before now some there wrote =
       output = bytes;
       error = [];
       leads = λ s.
-        writes_some m to_output bytes some there s
-        ∙ ap (λ e. Running (answered m (register m 12)) (record { input = s.input; output = s.output ++ bytes; error = e })) (sym (append-nil s.error));
+          writes_some m to_output bytes some there s
+          ∙ ap (λ e. Running (answered m (register m 12)) (record { input = s.input; output = s.output ++ bytes; error = e })) (sym (append-nil s.error));
       got_output = wrote.got;
       got_error = [];
       output_begun = wrote.begun;
@@ -108,8 +108,8 @@ broke_error m bytes rest output before now some there wrote =
       output = [];
       error = bytes;
       leads = λ s.
-        writes_some m to_error bytes some there s
-        ∙ ap (λ o. Running (answered m (register m 12)) (record { input = s.input; output = o; error = s.error ++ bytes })) (sym (append-nil s.output));
+          writes_some m to_error bytes some there s
+          ∙ ap (λ o. Running (answered m (register m 12)) (record { input = s.input; output = o; error = s.error ++ bytes })) (sym (append-nil s.output));
       got_output = [];
       got_error = wrote.got;
       output_begun = ([], refl);
@@ -133,20 +133,20 @@ read_some m mid new got ended at_end r0 r1 output error some few f whole pc regi
     record {
       x = x;
       leads = λ more out err h.
-        let s : Streams = streams_before x more out err in
-        let ends : (length f.taken ≡ length f.buffer) ⊎ (more ≡ []) = elim whole as (λ w. (length f.taken ≡ length f.buffer) ⊎ (more ≡ [])) [ inl all ↦ inl (f.so_many ∙ all ∙ sym f.size) | inr end ↦ inr (h end) ] in
-        let bytes : filled (f.taken ++ more) f.buffer ≡ f.taken ++ drop got f.buffer = filled_is f.taken more f.buffer fits ends ∙ ap (λ n. f.taken ++ drop n f.buffer) f.so_many in
-        let count : min (length f.buffer) (length (f.taken ++ more)) ≡ got = min_is f.taken more (length f.buffer) fits ends ∙ f.so_many in
-        let rest : drop got (f.taken ++ more) ≡ more = ap (λ n. drop n (f.taken ++ more)) (sym f.so_many) ∙ drop-append_seam f.taken more in
-        ap (λ b. cond b (gives m 10 0 s) (reads_into m (bytes_at (λ s. s.write) (register m 11) (register m 12) m.segments) s)) (not_zero (register m 12) some)
-        ∙ ap (λ o. reads_into m o s) f.there
-        ∙ ap (λ xs. goes_on_read m (with_bytes_at (λ s. s.write) (register m 11) xs m.segments) (min (length f.buffer) (length (f.taken ++ more))) s) bytes
-        ∙ ap (λ n. goes_on_read m (with_bytes_at (λ s. s.write) (register m 11) (f.taken ++ drop got f.buffer) m.segments) n s) count
-        ∙ ap (λ o. goes_on_read m o got s) f.written
-        ∙ ap (λ machine. Running machine (record s { input = drop got (f.taken ++ more) })) behind
-        ∙ ap (λ i. Running new (record { input = i; output = out; error = err })) rest
-        ∙ ap (λ o. Running new (record { input = more; output = o; error = err })) (sym (append-nil out))
-        ∙ ap (λ e. Running new (record { input = more; output = out ++ []; error = e })) (sym (append-nil err));
+          let s : Streams = streams_before x more out err in
+          let ends : (length f.taken ≡ length f.buffer) ⊎ (more ≡ []) = elim whole as (λ w. (length f.taken ≡ length f.buffer) ⊎ (more ≡ [])) [ inl all ↦ inl (f.so_many ∙ all ∙ sym f.size) | inr end ↦ inr (h end) ] in
+          let bytes : filled (f.taken ++ more) f.buffer ≡ f.taken ++ drop got f.buffer = filled_is f.taken more f.buffer fits ends ∙ ap (λ n. f.taken ++ drop n f.buffer) f.so_many in
+          let count : min (length f.buffer) (length (f.taken ++ more)) ≡ got = min_is f.taken more (length f.buffer) fits ends ∙ f.so_many in
+          let rest : drop got (f.taken ++ more) ≡ more = ap (λ n. drop n (f.taken ++ more)) (sym f.so_many) ∙ drop-append_seam f.taken more in
+          ap (λ b. cond b (gives m 10 0 s) (reads_into m (bytes_at (λ s. s.write) (register m 11) (register m 12) m.segments) s)) (not_zero (register m 12) some)
+          ∙ ap (λ o. reads_into m o s) f.there
+          ∙ ap (λ xs. goes_on_read m (with_bytes_at (λ s. s.write) (register m 11) xs m.segments) (min (length f.buffer) (length (f.taken ++ more))) s) bytes
+          ∙ ap (λ n. goes_on_read m (with_bytes_at (λ s. s.write) (register m 11) (f.taken ++ drop got f.buffer) m.segments) n s) count
+          ∙ ap (λ o. goes_on_read m o got s) f.written
+          ∙ ap (λ machine. Running machine (record s { input = drop got (f.taken ++ more) })) behind
+          ∙ ap (λ i. Running new (record { input = i; output = out; error = err })) rest
+          ∙ ap (λ o. Running new (record { input = more; output = o; error = err })) (sym (append-nil out))
+          ∙ ap (λ e. Running new (record { input = more; output = out ++ []; error = e })) (sym (append-nil err));
       exchanged = record { taken = f.takes.exchanged; output = nothing_written output; error = nothing_written error };
       stays_ended = f.takes.stays_ended;
       takes_nothing = f.takes.takes_nothing;

@@ -93,7 +93,12 @@ pub(crate) fn bytes_at(
 
 /// The place of the first segment that allows the access and holds so many bytes from the address on.
 #[inline]
-pub(crate) fn place_for(segments: &[Segment], access: Access, address: u64, count: u64) -> Option<usize>
+pub(crate) fn place_for(
+    segments: &[Segment],
+    access: Access,
+    address: u64,
+    count: u64,
+) -> Option<usize>
     ensures { result ≡ position (serves access address count) segments.now }
 {
     segments.iter().position(|segment| segment.grants(access) && segment.covers(address, count))
