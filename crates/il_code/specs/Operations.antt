@@ -4,9 +4,10 @@ use Rattle.std.specs.Option.{option_map}
 use Rattle.il_code.specs.declared.body.Operand.{Operand}
 use Rattle.il_code.specs.declared.body.Operand.TheVariants.{Number}
 use Rattle.il_code.specs.declared.opcode.Op.{Op}
-use Rattle.il_code.specs.declared.opcode.Op.TheVariants.{LdcI4M1, LdcI4_0, LdcI4_1, LdcI4_2, LdcI4_3, LdcI4_4, LdcI4_5, LdcI4_6, LdcI4_7, LdcI4_8, LdcI4S, LdcI4, Ret}
+use Rattle.il_code.specs.declared.opcode.Op.TheVariants.{Nop, LdcI4M1, LdcI4_0, LdcI4_1, LdcI4_2, LdcI4_3, LdcI4_4, LdcI4_5, LdcI4_6, LdcI4_7, LdcI4_8, LdcI4S, LdcI4, Dup, Pop, Ret, Add, Sub, Mul}
 use Rattle.il_code.specs.declared.operation.Operation.{Operation}
-use Rattle.il_code.specs.declared.operation.Operation.TheVariants.{Constant, Return}
+use Rattle.il_code.specs.declared.operation.Operation.TheVariants.{NoOperation, Constant, Duplicate, Discard, Binary, Return}
+use Rattle.il_code.specs.declared.operation.BinaryOperation.{BinaryOperation}
 
 -- a number that an int32 can be
 abbrev pub int32 : ℤ → Option ℤ
@@ -19,6 +20,7 @@ constant (Number n) = option_map Constant (int32 n)
 constant _ = None
 
 abbrev pub operation_of : Op → Operand → Option Operation
+operation_of Nop _ = Some NoOperation
 operation_of LdcI4M1 _ = Some (Constant (negsuc 0))
 operation_of LdcI4_0 _ = Some (Constant (pos 0))
 operation_of LdcI4_1 _ = Some (Constant (pos 1))
@@ -31,4 +33,9 @@ operation_of LdcI4_7 _ = Some (Constant (pos 7))
 operation_of LdcI4_8 _ = Some (Constant (pos 8))
 operation_of LdcI4S operand = constant operand
 operation_of LdcI4 operand = constant operand
+operation_of Dup _ = Some Duplicate
+operation_of Pop _ = Some Discard
 operation_of Ret _ = Some Return
+operation_of Add _ = Some (Binary BinaryOperation.Add)
+operation_of Sub _ = Some (Binary BinaryOperation.Subtract)
+operation_of Mul _ = Some (Binary BinaryOperation.Multiply)

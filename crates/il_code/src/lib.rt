@@ -8,7 +8,7 @@ mod read;
 
 pub use body::{Body, Clause, ClauseKind, Instr, Operand};
 pub use opcode::{OPCODES, Op, OperandForm};
-pub use operation::Operation;
+pub use operation::{BinaryOperation, Operation};
 pub use read::{BodyFault, instruction_at, tiny_code};
 
 #[cfg(test)]

@@ -7,10 +7,27 @@ use crate::opcode::Op;
 /// What an instruction does, whichever of its forms it has (ECMA-335 III.3).
 #[derive(Clone, Copy, Debug, PartialEq, Eq)]
 pub enum Operation {
+    /// `nop`: does nothing.
+    NoOperation,
     /// `ldc.i4`: loads a constant.
     Constant(i32),
+    /// `dup`: loads the value on top of the stack once more.
+    Duplicate,
+    /// `pop`: drops the value on top of the stack.
+    Discard,
+    /// `add`, `sub`, `mul`: what the two values on top of the stack give.
+    Binary(BinaryOperation),
     /// `ret`: goes back to the caller with the result, or ends the program.
     Return,
+}
+
+/// An operation on two numbers, the one below the top of the stack and the one on top, whose result is wrapped
+/// (ECMA-335 III.1.5).
+#[derive(Clone, Copy, Debug, PartialEq, Eq)]
+pub enum BinaryOperation {
+    Add,
+    Subtract,
+    Multiply,
 }
 
 impl Instr {
@@ -19,6 +36,7 @@ impl Instr {
         ensures { result ≡ operation_of self.now.op self.now.operand }
     {
         match self.op {
+            Op::Nop => Some(Operation::NoOperation),
             Op::LdcI4M1 => Some(Operation::Constant(-1)),
             Op::LdcI4_0 => Some(Operation::Constant(0)),
             Op::LdcI4_1 => Some(Operation::Constant(1)),
@@ -30,7 +48,12 @@ impl Instr {
             Op::LdcI4_7 => Some(Operation::Constant(7)),
             Op::LdcI4_8 => Some(Operation::Constant(8)),
             Op::LdcI4S | Op::LdcI4 => constant_operation(&self.operand),
+            Op::Dup => Some(Operation::Duplicate),
+            Op::Pop => Some(Operation::Discard),
             Op::Ret => Some(Operation::Return),
+            Op::Add => Some(Operation::Binary(BinaryOperation::Add)),
+            Op::Sub => Some(Operation::Binary(BinaryOperation::Subtract)),
+            Op::Mul => Some(Operation::Binary(BinaryOperation::Multiply)),
         }
     }
 }

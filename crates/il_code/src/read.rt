@@ -22,6 +22,8 @@ pub enum BodyFault {
 pub fn tiny_code(bytes: &[u8]) -> Result<&[u8], BodyFault>
     requires { length bytes.now < 2 ^ 32 }
     ensures code { MatchResult result (λ code. tiny_body bytes.now ≡ Ok code.now) (λ fault. at_offset fault (tiny_body bytes.now)) }
+    // A tiny header has six bits for the size.
+    ensures tiny { IfOk result (λ code. length code.now < 64) }
     ensures spelled { IfOk result (λ code. bytes.now ≡ (4 * length code.now + 2) ∷ code.now) }
 {
     let Some((header, code)) = bytes.split_first() else {

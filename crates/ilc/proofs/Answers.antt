@@ -10,7 +10,7 @@ use Rattle.ilc.specs.Words.{command_of, word_at}
 use Rattle.ilc.specs.declared.command.Command.{Command}
 use Rattle.ilc.specs.declared.command.Command.TheVariants.{Body, Run}
 use Rattle.ilc.specs.declared.outcome.Outcome.{Outcome}
-use Rattle.ilc.specs.declared.outcome.Outcome.TheVariants.{Usage, NoFile, TooLong, BadHeader, OpcodeOutside, BadElf, ReadFault, WriteFault, Spent, Trapped, Ended, Written, Memory}
+use Rattle.ilc.specs.declared.outcome.Outcome.TheVariants.{Usage, NoFile, TooLong, BadHeader, OpcodeOutside, Unverified, BadElf, ReadFault, WriteFault, Spent, Trapped, Ended, Written, Memory}
 
 not_built_fails : (index : ℕ) (file : List ℕ) (before now : StoreSeen) (o : Outcome) → NotBuilt index file before now o → status_of o ≡ 0 → ⊥
 not_built_fails index file before now (Usage i) h e = h
@@ -18,6 +18,7 @@ not_built_fails index file before now (NoFile w) h e = omega arith
 not_built_fails index file before now (TooLong s) h e = omega arith
 not_built_fails index file before now (BadHeader w s) h e = omega arith
 not_built_fails index file before now (OpcodeOutside s) h e = omega arith
+not_built_fails index file before now (Unverified s) h e = omega arith
 not_built_fails index file before now (BadElf w p) h e = h
 not_built_fails index file before now ReadFault h e = omega arith
 not_built_fails index file before now WriteFault h e = h
@@ -36,6 +37,7 @@ written_at_0 out elf before now (NoFile w) h e = absurd h
 written_at_0 out elf before now (TooLong s) h e = absurd h
 written_at_0 out elf before now (BadHeader w s) h e = absurd h
 written_at_0 out elf before now (OpcodeOutside s) h e = absurd h
+written_at_0 out elf before now (Unverified s) h e = absurd h
 written_at_0 out elf before now (BadElf w p) h e = absurd h
 written_at_0 out elf before now ReadFault h e = absurd h
 written_at_0 out elf before now (Spent s) h e = absurd h

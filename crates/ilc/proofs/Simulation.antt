@@ -1,124 +1,191 @@
--- The code of a constant and a return does what they do.
-use Rattle.std.proofs.Common.{◌≡◌, ◌∙◌, ℕ, zero, suc, ◌+◌, ◌-◌, ◌*◌, ◌/◌, ◌%◌, ◌^◌, ◌<◌, ◌≤◌, ℤ, pos, negsuc, List, [], ◌∷◌, ◌++◌, length, arith, refl, ap, sym, subst, Option, Some, None, slice_get, slice_index, slice_set, FitsSigned, cond, nat_eq, eq-eqb, ne_eqb, ◌+ℤ◌, find, Bool, true, false}
-use Rattle.std.proofs.lemmas.Bool.{ltb-true}
-use Rattle.std.proofs.lemmas.Int.{ints}
-use Rattle.std.proofs.lemmas.Option.{cond_some}
-use Rattle.std.specs.Int.{w32}
-use Rattle.num_core.specs.Run.{Run, Running, Ended, Stopped, Streams, Same, KeepsStep, after, one_more}
-use Rattle.num_core.proofs.Runs.{Simulates, keeps_step, after-ended}
+-- The code of a bare body does what the body does.
+use Rattle.std.proofs.Common.{◌≡◌, ◌∙◌, ℕ, zero, suc, ◌+◌, ◌-◌, ◌*◌, ◌<◌, ◌≤◌, ℤ, pos, List, [], ◌∷◌, ◌++◌, length, arith, refl, ap, sym, subst, Option, Some, None, cond, nat_eq, eq-eqb, ne_eqb, find, Bool, true, false, append_assoc, length-append}
+use Rattle.std.proofs.lemmas.List.{length_push}
+use Rattle.num_core.specs.Integers.{number, held}
+use Rattle.num_core.specs.declared.kind.Kind.TheVariants.{I4}
+use Rattle.num_core.specs.Run.{Run, Running, Ended, Streams, Same, after, one_more}
+use Rattle.num_core.proofs.Runs.{Simulates}
 use Rattle.il_code.specs.declared.body.Body.{Body}
 use Rattle.il_code.specs.declared.body.Instr.{Instr}
-use Rattle.il_code.specs.Operations.{int32}
+use Rattle.il_code.specs.declared.operation.Operation.{Operation}
+use Rattle.il_code.specs.declared.operation.Operation.TheVariants.{NoOperation, Constant, Duplicate, Discard, Binary, Return}
+use Rattle.il_code.specs.declared.operation.BinaryOperation.{BinaryOperation}
+use Rattle.il_code.specs.Operations.{operation_of}
 use Rattle.rv_isa.specs.declared.ins.Ins.{Ins}
-use Rattle.rv_isa.specs.declared.ins.Ins.TheVariants.{Lui, Addi, Addiw, Ecall}
-use Rattle.rv_isa.specs.Instructions.{word_of, IsLegal}
-use Rattle.rv_step.specs.Machine.{MachineState, machine_step, effect, register, low_bits, low_word, next_pc, with_register, request, answers}
+use Rattle.rv_step.specs.Machine.{MachineState, machine_step, low_bits}
+use Rattle.rv_step.specs.declared.segment.Segment.{Segment}
 use Rattle.rv_step.specs.declared.trap.Trap.{Trap}
-use Rattle.ilc.specs.Cil.{CilState, CilCause, cil_step, cil_start, Frame, Slot, Int32, on_instruction, performs}
-use Rattle.ilc.specs.Code.{code_of, text_of, upper, lower, optional_code, instr_code}
-use Rattle.ilc.specs.Bare.{IsConstant}
-use Rattle.ilc.proofs.Place.{StandsAt, steps_at, stands_next}
-use Rattle.ilc.proofs.Constants.{constant_value, lower_is_immediate, lower_bits}
-use Rattle.ilc.proofs.Registers.{HasRegisters, Gets, has_registers, register_same, register_other, low_byte}
+use Rattle.ilc.specs.Bare.{is_return}
+use Rattle.ilc.specs.Cil.{CilState, CilCause, cil_step, Frame, Slot, Int32, instruction_in, on_instruction, performs, result_of}
+use Rattle.ilc.specs.Code.{code_of, code_from, operation_code, optional_code, optional_depth}
+use Rattle.ilc.specs.Typing.{takes, depth_behind}
+use Rattle.ilc.proofs.Blocks.{OnStack, Went, went_nowhere, went_constant, went_duplicate, went_binary, went_home}
+use Rattle.ilc.proofs.Place.{BlockAt, block_at}
+use Rattle.ilc.proofs.Straight.{Straight, Returns, Goes, constant_fits}
 
--- the code of a constant and a return
-abbrev pub program : ℤ → List Ins
-program n = Lui 10 (upper n) ∷ Addiw 10 10 (lower n) ∷ Addi 17 0 (pos 93) ∷ Ecall ∷ []
+-- the slots of an evaluation stack of numbers
+abbrev pub slots_of : List ℤ → List Slot
+slots_of [] = []
+slots_of (n ∷ stack) = Int32 n ∷ slots_of stack
 
--- the same with another code in place of the return
-abbrev program_with : List Ins → ℤ → List Ins
-program_with ret n = (Lui 10 (upper n) ∷ Addiw 10 10 (lower n) ∷ []) ++ (ret ++ [])
+-- the body at an offset, with a stack of numbers
+abbrev pub frame_at : ℕ → List ℤ → Frame
+frame_at at stack = record { offset = at; stack = slots_of stack }
 
-pub code-is : (body : Body) (is : IsConstant body) → code_of body.code ≡ program is.n
-code-is body is =
-    ap code_of is.code
-    ∙ ap (λ o. optional_code o ++ (instr_code is.ret ++ [])) is.constant
-    ∙ ap (λ o. program_with (optional_code o) is.n) is.returns
+abbrev pub state_at : ℕ → List ℤ → CilState
+state_at at stack = record { frames = frame_at at stack ∷ [] }
+
+-- instructions that stand before an offset
+abbrev pub AreBefore : ℕ → List Instr → Type 0
+AreBefore at [] = Unit {0}
+AreBefore at (i ∷ instrs) = (i.at < at) × AreBefore at instrs
+
+-- The body stands at the first of the instructions `rest`, behind those that are done, and the machine at the
+-- first of their code, with the body's stack in memory.
+pub record IsAt (body : Body) (front : List ℕ) (text : Segment) (at depth : ℕ) (stack : List ℤ) (rest : List Instr) (m : MachineState) : Type 0 where
+  pub size : length stack ≡ depth
+  pub done : List Instr
+  pub split : body.code ≡ done ++ rest
+  pub earlier : AreBefore at done
+  pub before : List Ins
+  pub code : code_of body.code ≡ before ++ code_from depth rest
+  pub slots : Segment
+  pub on : OnStack front (code_of body.code) text slots (length before) stack m
+
+-- The states that belong together: at an instruction, and at the end.
+pub data Related (body : Body) (front : List ℕ) (text : Segment) : Run CilState CilCause → Run MachineState Trap → Type 0 where
+  AtInstruction : (at depth : ℕ) (stack : List ℤ) (rest : List Instr) (m : MachineState) (streams : Streams) → Straight 8 depth at rest → IsAt body front text at depth stack rest m → Related body front text (Running (state_at at stack) streams) (Running m streams)
+  AtEnd : (n : ℤ) (streams : Streams) → Related body front text (Ended (low_bits 8 n) streams) (Ended (low_bits 8 n) streams)
+
+pub alike : (body : Body) (front : List ℕ) (text : Segment) (a : Run CilState CilCause) (b : Run MachineState Trap) → Related body front text a b → Same a b
+alike body front text _ _ (AtInstruction at depth stack rest m streams straight is) = refl
+alike body front text _ _ (AtEnd n streams) = (refl, refl)
 
 -- what is moved along two equations
 subst2 : {A B : Type 0} (P : A → B → Type 0) {a a' : A} {b b' : B} → a ≡ a' → b ≡ b' → P a b → P a' b'
 subst2 P {a} {a'} {b} {b'} e f p = subst (λ y. P a' y) f (subst (λ x. P x b) e p)
 
-int32_fits : (n : ℤ) → int32 n ≡ Some n → FitsSigned w32 n
-int32_fits (pos a) e = record { sfits = ltb-true a (2 ^ 31) (cond_some _ _ _ e).0 }
-int32_fits (negsuc a) e = record { sfits = ltb-true a (2 ^ 31) (cond_some _ _ _ e).0 }
+-- ---- the body's step
 
-abbrev start : Frame
-start = record { offset = 0; stack = [] }
+found_behind : (done rest : List Instr) (i : Instr) → AreBefore i.at done → find (λ j. nat_eq j.at i.at) (done ++ i ∷ rest) ≡ Some i
+found_behind [] rest i earlier = ap (λ b. cond b (Some i) (find (λ j. nat_eq j.at i.at) rest)) (eq-eqb i.at i.at refl)
+found_behind (j ∷ done) rest i earlier =
+    let other : nat_eq j.at i.at ≡ false = ne_eqb j.at i.at (omega (arith, earlier.0)) in
+    ap (λ b. cond b (Some j) (find (λ j. nat_eq j.at i.at) (done ++ i ∷ rest))) other ∙ found_behind done rest i earlier.1
 
-abbrev loaded_frame : {body : Body} → IsConstant body → Frame
-loaded_frame is = record { offset = is.load.next; stack = Int32 is.n ∷ [] }
+performed : (body : Body) (done rest : List Instr) (i : Instr) (operation : Operation) (stack : List ℤ) (streams : Streams) → body.code ≡ done ++ i ∷ rest → AreBefore i.at done → operation_of i.op i.operand ≡ Some operation → cil_step body (state_at i.at stack) streams ≡ performs (Some operation) i (frame_at i.at stack) [] streams
+performed body done rest i operation stack streams split earlier is =
+    ap (λ instrs. on_instruction (find (λ j. nat_eq j.at i.at) instrs) (frame_at i.at stack) [] streams) split
+    ∙ ap (λ o. on_instruction o (frame_at i.at stack) [] streams) (found_behind done rest i earlier)
+    ∙ ap (λ o. performs o i (frame_at i.at stack) [] streams) is
 
--- The states that belong together: at the load, behind it with the constant in a0, and at the end.
-pub data Related (body : Body) (is : IsConstant body) (front : List ℕ) : Run CilState CilCause → Run MachineState Trap → Type 0 where
-  AtLoad : (m : MachineState) (streams : Streams) → StandsAt front (program is.n) 0 m → HasRegisters m → Related body is front (Running cil_start streams) (Running m streams)
-  AtReturn : (m : MachineState) (streams : Streams) → StandsAt front (program is.n) 2 m → HasRegisters m → register m 10 ≡ low_bits 64 is.n → Related body is front (Running (record { frames = record { offset = is.load.next; stack = Int32 is.n ∷ [] } ∷ [] }) streams) (Running m streams)
-  AtEnd : (streams : Streams) → Related body is front (Ended (low_bits 8 is.n) streams) (Ended (low_bits 8 is.n) streams)
+-- ---- on to the next instruction
 
-pub alike : (body : Body) (is : IsConstant body) (front : List ℕ) (a : Run CilState CilCause) (b : Run MachineState Trap) → Related body is front a b → Same a b
-alike body is front _ _ (AtLoad m streams at has) = refl
-alike body is front _ _ (AtReturn m streams at has value) = refl
-alike body is front _ _ (AtEnd streams) = (refl, refl)
+before_later : (at later : ℕ) (instrs : List Instr) → at ≤ later → AreBefore at instrs → AreBefore later instrs
+before_later at later [] h earlier = tt
+before_later at later (i ∷ instrs) h earlier = (omega (arith, earlier.0), before_later at later instrs h earlier.1)
 
--- the step of the body at the load
-cil_load : (body : Body) (is : IsConstant body) (streams : Streams) → cil_step body cil_start streams ≡ Running (record { frames = record { offset = is.load.next; stack = Int32 is.n ∷ [] } ∷ [] }) streams
-cil_load body is streams =
-    let here : nat_eq is.load.at 0 ≡ true = eq-eqb _ _ is.first in
-    ap (λ is. on_instruction (find (λ i. nat_eq i.at 0) is) start [] streams) is.code
-    ∙ ap (λ b. on_instruction (cond b (Some is.load) (find (λ i. nat_eq i.at 0) (is.ret ∷ []))) start [] streams) here
-    ∙ ap (λ o. performs o is.load start [] streams) is.constant
+one_more_before : (at : ℕ) (instrs : List Instr) (i : Instr) → i.at < at → AreBefore at instrs → AreBefore at (instrs ++ i ∷ [])
+one_more_before at [] i h earlier = (h, tt)
+one_more_before at (j ∷ instrs) i h earlier = (earlier.0, one_more_before at instrs i h earlier.1)
 
--- and at the return
-cil_return : (body : Body) (is : IsConstant body) (streams : Streams) → cil_step body (record { frames = record { offset = is.load.next; stack = Int32 is.n ∷ [] } ∷ [] }) streams ≡ Ended (low_bits 8 is.n) streams
-cil_return body is streams =
-    let not_here : nat_eq is.load.at is.load.next ≡ false = ne_eqb _ _ (omega arith) in
-    let here : nat_eq is.ret.at is.load.next ≡ true = eq-eqb _ _ is.second in
-    ap (λ is'. on_instruction (find (λ i. nat_eq i.at is.load.next) is') (loaded_frame is) [] streams) is.code
-    ∙ ap (λ b. on_instruction (cond b (Some is.load) (find (λ i. nat_eq i.at is.load.next) (is.ret ∷ []))) (loaded_frame is) [] streams) not_here
-    ∙ ap (λ b. on_instruction (cond b (Some is.ret) None) (loaded_frame is) [] streams) here
-    ∙ ap (λ o. performs o is.ret (loaded_frame is) [] streams) is.returns
+code_of_first : (depth : ℕ) (i : Instr) (operation : Operation) (rest : List Instr) → operation_of i.op i.operand ≡ Some operation → code_from depth (i ∷ rest) ≡ operation_code depth operation ++ code_from (depth_behind depth operation) rest
+code_of_first depth i operation rest is = ap (λ o. optional_code depth o ++ code_from (optional_depth depth o) rest) is
 
--- the steps of the machine at the load
-machine_load : (n : ℤ) (front : List ℕ) (m : MachineState) (streams : Streams) → FitsSigned w32 n → StandsAt front (program n) 0 m → HasRegisters m → (m' : MachineState) × (after machine_step 2 (Running m streams) ≡ Running m' streams) × StandsAt front (program n) 2 m' × HasRegisters m' × (register m' 10 ≡ low_bits 64 n)
-machine_load n front m streams fits at has =
-    let v : ℕ = low_word (pos (upper n * 2 ^ 12)) in
-    let m1 : MachineState = record { pc = next_pc m; registers = slice_set m.registers 10 v; segments = m.segments } in
-    let step1 : machine_step m streams ≡ Running m1 streams = steps_at front (program n) 0 m streams (Lui 10 (upper n)) at refl (omega arith, omega arith) (omega arith) in
-    let at1 : StandsAt front (program n) 1 m1 = stands_next front (program n) 0 m m1 at (omega arith) refl refl in
-    let gets1 : Gets 10 v m m1 = record { registers = refl } in
-    let has1 : HasRegisters m1 = has_registers 10 v m m1 (omega arith) has gets1 in
-    let w : ℕ = low_word (pos (register m1 10) +ℤ lower n) in
-    let m2 : MachineState = record { pc = next_pc m1; registers = slice_set m1.registers 10 w; segments = m1.segments } in
-    let step2 : machine_step m1 streams ≡ Running m2 streams = steps_at front (program n) 1 m1 streams (Addiw 10 10 (lower n)) at1 refl (omega arith, omega arith, lower_is_immediate n) (omega (arith, lower_bits n)) in
-    let at2 : StandsAt front (program n) 2 m2 = stands_next front (program n) 1 m1 m2 at1 (omega arith) refl refl in
-    let gets2 : Gets 10 w m1 m2 = record { registers = refl } in
-    let value : register m2 10 ≡ low_bits 64 n =
-    register_same 10 w m1 m2 (omega arith) has1 gets2
-    ∙ ap (λ x. low_word (pos x +ℤ lower n)) (register_same 10 v m m1 (omega arith) has gets1)
-    ∙ constant_value n fits in
-    (m2, ap (one_more machine_step) step1 ∙ step2, at2, has_registers 10 w m1 m2 (omega arith) has1 gets2, value)
+-- In 1 to 24 steps of the machine the two come to states that belong together.
+abbrev pub Follows : Body → List ℕ → Segment → Run CilState CilCause → MachineState → Streams → Type 0
+Follows body front text run m streams = (count : ℕ) × (count < 24) × Related body front text run (after machine_step (suc count) (Running m streams))
 
--- and at the return
-machine_return : (n : ℤ) (front : List ℕ) (m : MachineState) (streams : Streams) → StandsAt front (program n) 2 m → HasRegisters m → register m 10 ≡ low_bits 64 n → after machine_step 2 (Running m streams) ≡ Ended (low_bits 8 n) streams
-machine_return n front m streams at has value =
-    let v : ℕ = low_bits 64 (pos (register m 0) +ℤ pos 93) in
-    let m1 : MachineState = record { pc = next_pc m; registers = slice_set m.registers 17 v; segments = m.segments } in
-    let step1 : machine_step m streams ≡ Running m1 streams = steps_at front (program n) 2 m streams (Addi 17 0 (pos 93)) at refl (omega arith, omega arith, (omega (arith, ints), omega (arith, ints))) (omega arith) in
-    let at1 : StandsAt front (program n) 3 m1 = stands_next front (program n) 2 m m1 at (omega arith) refl refl in
-    let gets1 : Gets 17 v m m1 = record { registers = refl } in
-    let number : register m1 17 ≡ 93 = register_same 17 v m m1 (omega arith) has gets1 ∙ ap (λ x. low_bits 64 (pos x +ℤ pos 93)) has.x0 in
-    let a0 : register m1 10 ≡ low_bits 64 n = register_other 17 10 v m m1 (omega arith) gets1 ∙ value in
-    let step2 : machine_step m1 streams ≡ effect Ecall m1 streams = steps_at front (program n) 3 m1 streams Ecall at1 refl tt (omega arith) in
-    ap (one_more machine_step) step1 ∙ step2
-    ∙ ap (λ x. answers (request x (register m1 10)) m1 streams) number
-    ∙ ap (λ x. Ended (x % 256) streams) a0
-    ∙ ap (λ x. Ended x streams) (low_byte n)
+-- the block of the first instruction
+block_of : (body : Body) (front : List ℕ) (text : Segment) (depth : ℕ) (stack : List ℤ) (i : Instr) (operation : Operation) (rest : List Instr) (m : MachineState) (is : IsAt body front text i.at depth stack (i ∷ rest) m) → operation_of i.op i.operand ≡ Some operation → BlockAt (code_of body.code) (length is.before) (operation_code (length stack) operation)
+block_of body front text depth stack i operation rest m is does =
+    subst (λ d. BlockAt (code_of body.code) (length is.before) (operation_code d operation)) (sym is.size)
+    (block_at is.before (operation_code depth operation) (code_from (depth_behind depth operation) rest) (code_of body.code) (length is.before)
+    (is.code ∙ ap (λ c. is.before ++ c) (code_of_first depth i operation rest does)) refl)
 
--- from related states, one step of the body is two steps of the machine to related states
-pub goes : (body : Body) (is : IsConstant body) (front : List ℕ) (a : Run CilState CilCause) (b : Run MachineState Trap) → Related body is front a b → (k : ℕ) × Related body is front (one_more (cil_step body) a) (after machine_step (suc k) b)
-goes body is front _ _ (AtLoad m streams at has) =
-    let run = machine_load is.n front m streams (int32_fits is.n is.number) at has in
-    (1, subst2 (Related body is front) (sym (cil_load body is streams)) (sym run.1) (AtReturn run.0 streams run.2 run.3 run.4))
-goes body is front _ _ (AtReturn m streams at has value) =
-    (1, subst2 (Related body is front) (sym (cil_return body is streams)) (sym (machine_return is.n front m streams at has value)) (AtEnd streams))
-goes body is front _ _ (AtEnd streams) = (0, AtEnd streams)
+follows : (body : Body) (front : List ℕ) (text : Segment) (depth place : ℕ) (stack stack' : List ℤ) (i : Instr) (operation : Operation) (rest : List Instr) (m : MachineState) (streams : Streams) (is : IsAt body front text i.at depth stack (i ∷ rest) m) → operation_of i.op i.operand ≡ Some operation → i.at < i.next → Straight 8 (depth_behind depth operation) i.next rest
+    → performs (Some operation) i (frame_at i.at stack) [] streams ≡ Running (state_at i.next stack') streams → Went front (code_of body.code) text place stack' m streams → place ≡ length is.before + length (operation_code depth operation) → length stack' ≡ depth_behind depth operation
+    → Follows body front text (cil_step body (state_at i.at stack) streams) m streams
+follows body front text depth place stack stack' i operation rest m streams is does later straight performs_is went there size =
+    let step : cil_step body (state_at i.at stack) streams ≡ Running (state_at i.next stack') streams =
+    performed body is.done rest i operation stack streams is.split is.earlier does ∙ performs_is in
+    let before : List Ins = is.before ++ operation_code depth operation in
+    let place_is : place ≡ length before = there ∙ sym (length-append is.before (operation_code depth operation)) in
+    let next : IsAt body front text i.next (depth_behind depth operation) stack' rest went.machine =
+    record {
+      size = size;
+      done = is.done ++ i ∷ [];
+      split = is.split ∙ sym (append_assoc is.done (i ∷ []) rest);
+      earlier = one_more_before i.next is.done i later (before_later i.at i.next is.done (omega (arith, later)) is.earlier);
+      before = before;
+      code = is.code ∙ ap (λ c. is.before ++ c) (code_of_first depth i operation rest does) ∙ sym (append_assoc is.before (operation_code depth operation) (code_from (depth_behind depth operation) rest));
+      slots = went.slots;
+      on = subst (λ k. OnStack front (code_of body.code) text went.slots k stack' went.machine) place_is went.on;
+    } in (
+      went.count,
+      went.few,
+      subst2 (Related body front text) (sym step) (sym went.runs) (AtInstruction i.next (depth_behind depth operation) stack' rest went.machine streams straight next),
+    )
+
+-- ---- each operation
+
+follows_return : (body : Body) (front : List ℕ) (text : Segment) (stack : List ℤ) (i : Instr) (m : MachineState) (streams : Streams) → IsAt body front text i.at 1 stack (i ∷ []) m → operation_of i.op i.operand ≡ Some Return → Follows body front text (cil_step body (state_at i.at stack) streams) m streams
+follows_return body front text [] i m streams is does = absurd (let h : 0 ≡ 1 = is.size in omega (arith, h))
+follows_return body front text (n ∷ []) i m streams is does = (
+  3,
+  omega arith,
+  subst2 (Related body front text) (sym (performed body is.done [] i Return (n ∷ []) streams is.split is.earlier does))
+      (sym (went_home n streams is.on (block_of body front text 1 (n ∷ []) i Return [] m is does)))
+      (AtEnd n streams),
+)
+follows_return body front text (n ∷ n' ∷ stack) i m streams is does = absurd (let h : suc (suc (length stack)) ≡ 1 = is.size in omega (arith, h))
+
+follows_duplicate : (body : Body) (front : List ℕ) (text : Segment) (depth : ℕ) (stack : List ℤ) (i : Instr) (rest : List Instr) (m : MachineState) (streams : Streams) → IsAt body front text i.at depth stack (i ∷ rest) m → operation_of i.op i.operand ≡ Some Duplicate → 1 ≤ depth → depth ≤ 8 → i.at < i.next → Straight 8 (depth_behind depth Duplicate) i.next rest → Follows body front text (cil_step body (state_at i.at stack) streams) m streams
+follows_duplicate body front text depth [] i rest m streams is does some few later straight = absurd (let h : 0 ≡ depth = is.size in omega (arith, h, some))
+follows_duplicate body front text depth (n ∷ stack) i rest m streams is does some few later straight =
+    let h : suc (length stack) ≡ depth = is.size in
+    follows body front text depth (suc (suc (suc (length is.before)))) (n ∷ stack) (n ∷ n ∷ stack) i Duplicate rest m streams is does later straight refl
+    (went_duplicate stack n streams (omega (arith, h, few)) is.on (block_of body front text depth (n ∷ stack) i Duplicate rest m is does)) (omega arith) (omega (arith, h, some))
+
+follows_discard : (body : Body) (front : List ℕ) (text : Segment) (depth : ℕ) (stack : List ℤ) (i : Instr) (rest : List Instr) (m : MachineState) (streams : Streams) → IsAt body front text i.at depth stack (i ∷ rest) m → operation_of i.op i.operand ≡ Some Discard → 1 ≤ depth → i.at < i.next → Straight 8 (depth_behind depth Discard) i.next rest → Follows body front text (cil_step body (state_at i.at stack) streams) m streams
+follows_discard body front text depth [] i rest m streams is does some later straight = absurd (let h : 0 ≡ depth = is.size in omega (arith, h, some))
+follows_discard body front text depth (n ∷ stack) i rest m streams is does some later straight =
+    let h : suc (length stack) ≡ depth = is.size in
+    follows body front text depth (suc (length is.before)) (n ∷ stack) stack i Discard rest m streams is does later straight refl
+    (went_nowhere (n ∷ stack) stack streams is.on (block_of body front text depth (n ∷ stack) i Discard rest m is does) is.on.holds.1) (omega arith) (omega (arith, h, some))
+
+follows_binary : (body : Body) (front : List ℕ) (text : Segment) (depth : ℕ) (stack : List ℤ) (i : Instr) (operation : BinaryOperation) (rest : List Instr) (m : MachineState) (streams : Streams) → IsAt body front text i.at depth stack (i ∷ rest) m → operation_of i.op i.operand ≡ Some (Binary operation) → 2 ≤ depth → depth ≤ 8 → i.at < i.next → Straight 8 (depth_behind depth (Binary operation)) i.next rest → Follows body front text (cil_step body (state_at i.at stack) streams) m streams
+follows_binary body front text depth [] i operation rest m streams is does some few later straight = absurd (let h : 0 ≡ depth = is.size in omega (arith, h, some))
+follows_binary body front text depth (b ∷ []) i operation rest m streams is does some few later straight = absurd (let h : 1 ≡ depth = is.size in omega (arith, h, some))
+follows_binary body front text depth (b ∷ a ∷ stack) i operation rest m streams is does some few later straight =
+    let h : suc (suc (length stack)) ≡ depth = is.size in
+    follows body front text depth (suc (suc (suc (suc (suc (length is.before)))))) (b ∷ a ∷ stack) (held I4 (result_of operation (number I4 a) (number I4 b)) ∷ stack) i (Binary operation) rest m streams is does later straight refl
+    (went_binary stack operation a b streams (omega (arith, h, few)) is.on (block_of body front text depth (b ∷ a ∷ stack) i (Binary operation) rest m is does)) (omega arith) (omega (arith, h, some))
+
+follows_operation : (body : Body) (front : List ℕ) (text : Segment) (depth : ℕ) (stack : List ℤ) (i : Instr) (operation : Operation) (rest : List Instr) (m : MachineState) (streams : Streams) → IsAt body front text i.at depth stack (i ∷ rest) m → operation_of i.op i.operand ≡ Some operation → is_return operation ≡ false → takes operation ≤ depth → depth ≤ 8 → i.at < i.next → Straight 8 (depth_behind depth operation) i.next rest → Follows body front text (cil_step body (state_at i.at stack) streams) m streams
+follows_operation body front text depth stack i NoOperation rest m streams is does goes some few later straight =
+    follows body front text depth (suc (length is.before)) stack stack i NoOperation rest m streams is does later straight refl
+    (went_nowhere stack stack streams is.on (block_of body front text depth stack i NoOperation rest m is does) is.on.holds) (omega arith) (omega (arith, is.size))
+follows_operation body front text depth stack i (Constant n) rest m streams is does goes some few later straight =
+    follows body front text depth (suc (suc (suc (suc (length is.before))))) stack (n ∷ stack) i (Constant n) rest m streams is does later straight refl
+    (went_constant stack n streams (constant_fits i.op i.operand n does) (omega (arith, is.size, few)) is.on (block_of body front text depth stack i (Constant n) rest m is does)) (omega arith) (omega (arith, is.size))
+follows_operation body front text depth stack i Duplicate rest m streams is does goes some few later straight = follows_duplicate body front text depth stack i rest m streams is does some few later straight
+follows_operation body front text depth stack i Discard rest m streams is does goes some few later straight = follows_discard body front text depth stack i rest m streams is does some later straight
+follows_operation body front text depth stack i (Binary operation) rest m streams is does goes some few later straight = follows_binary body front text depth stack i operation rest m streams is does some few later straight
+follows_operation body front text depth stack i Return rest m streams is does goes some few later straight = cc
+
+follows_straight : (body : Body) (front : List ℕ) (text : Segment) (at depth : ℕ) (stack : List ℤ) (rest : List Instr) (m : MachineState) (streams : Streams) → Straight 8 depth at rest → IsAt body front text at depth stack rest m → Follows body front text (cil_step body (state_at at stack) streams) m streams
+follows_straight body front text _ _ stack _ m streams (Returns i does) is = follows_return body front text stack i m streams is does
+follows_straight body front text _ _ stack _ m streams (Goes depth i operation rest does goes some few later straight) is = follows_operation body front text depth stack i operation rest m streams is does goes some few later straight
+
+-- From related states, one step of the body is 1 to 24 steps of the machine to related states.
+pub goes_within : (body : Body) (front : List ℕ) (text : Segment) (a : Run CilState CilCause) (b : Run MachineState Trap) → Related body front text a b → (count : ℕ) × (count < 24) × Related body front text (one_more (cil_step body) a) (after machine_step (suc count) b)
+goes_within body front text _ _ (AtInstruction at depth stack rest m streams straight is) = follows_straight body front text at depth stack rest m streams straight is
+goes_within body front text _ _ (AtEnd n streams) = (0, omega arith, AtEnd n streams)
+
+pub simulates : (body : Body) (front : List ℕ) (text : Segment) → Simulates (cil_step body) machine_step (Related body front text)
+simulates body front text =
+    record {
+      alike = alike body front text;
+      goes = λ a b related. let went = goes_within body front text a b related in (went.0, went.2);
+    }

@@ -7,18 +7,20 @@ use Rattle.ilc_io.specs.declared.fault.FileFault.{FileFault}
 use Rattle.ilc_io.specs.declared.fault.FileFault.TheVariants.{Missing, Failed, TooLong as FileTooLong, Memory as FileMemory}
 use Rattle.ilc_io.specs.Store.{Store, size_of, stored, IsPartlyStored}
 use Rattle.il_code.specs.declared.body.Body.{Body as MethodBody}
+use Rattle.il_code.specs.declared.body.Instr.{Instr}
 use Rattle.il_code.specs.Tiny.{tiny_body}
 use Rattle.rv_step.specs.Machine.{MachineState}
 use Rattle.rv_step.specs.Outcomes.{GoesOn, EndsAfter, TrapsWithin, ReadFailsWithin, WriteFailsWithin}
 use Rattle.elf_file.specs.Elf.{loaded}
 use Rattle.ilc.specs.Bare.{bare_code, ReadsBare}
+use Rattle.ilc.specs.Typing.{first_failing}
 use Rattle.ilc.specs.Implements.{Implements}
 use Rattle.ilc.specs.Seen.{StoreSeen, StreamsSeen}
 use Rattle.ilc.specs.Words.{command_of, word_at}
 use Rattle.ilc.specs.declared.command.Command.{Command}
 use Rattle.ilc.specs.declared.command.Command.TheVariants.{Body, Run}
 use Rattle.ilc.specs.declared.outcome.Outcome.{Outcome}
-use Rattle.ilc.specs.declared.outcome.Outcome.TheVariants.{Usage, NoFile, TooLong, BadHeader, OpcodeOutside, BadElf, ReadFault, WriteFault, Spent, Trapped, Ended, Written, Memory}
+use Rattle.ilc.specs.declared.outcome.Outcome.TheVariants.{Usage, NoFile, TooLong, BadHeader, OpcodeOutside, Unverified, BadElf, ReadFault, WriteFault, Spent, Trapped, Ended, Written, Memory}
 
 -- ---- reading a file
 
@@ -61,16 +63,20 @@ outcome_of_read FileMemory index = Memory
 abbrev pub body_limit : ℕ
 body_limit = 16777216
 
--- the outcomes of code that is no constant and return
-abbrev pub IsOutside : List ℕ → Outcome → Type 0
-IsOutside code (OpcodeOutside offset) = bare_code code ≡ Err offset
-IsOutside code Memory = Unit {0}
-IsOutside code _ = ⊥
+-- The outcomes of code that isn't that of a bare body, whose greatest depth is 8. That it is verified is asked of
+-- instructions that are all read.
+abbrev pub NotBareCode : List ℕ → Outcome → Type 0
+NotBareCode code (OpcodeOutside offset) = bare_code code ≡ Err offset
+NotBareCode code (Unverified offset) = (instrs : List Instr) × (bare_code code ≡ Ok instrs) × (first_failing 8 0 instrs ≡ Some offset)
+NotBareCode code Memory = Unit {0}
+NotBareCode code _ = ⊥
 
 -- the outcomes of bytes that are no bare body, in the file that the word at an index names
 abbrev pub NotBare : ℕ → List ℕ → Outcome → Type 0
 NotBare index bytes (BadHeader word offset) = (word ≡ index) × (tiny_body bytes ≡ Err offset)
 NotBare index bytes (OpcodeOutside offset) = (code : List ℕ) × (tiny_body bytes ≡ Ok code) × (bare_code code ≡ Err offset)
+NotBare index bytes (Unverified offset) =
+    (code : List ℕ) × (tiny_body bytes ≡ Ok code) × (instrs : List Instr) × (bare_code code ≡ Ok instrs) × (first_failing 8 0 instrs ≡ Some offset)
 NotBare index bytes Memory = Unit {0}
 NotBare index bytes _ = ⊥
 
@@ -91,6 +97,9 @@ NotBuilt index file before now (BadHeader word offset) =
     (bytes : List ℕ) × IsRead file body_limit bytes before now × (word ≡ index) × (tiny_body bytes ≡ Err offset)
 NotBuilt index file before now (OpcodeOutside offset) =
     (bytes : List ℕ) × IsRead file body_limit bytes before now × (code : List ℕ) × (tiny_body bytes ≡ Ok code) × (bare_code code ≡ Err offset)
+NotBuilt index file before now (Unverified offset) =
+    (bytes : List ℕ) × IsRead file body_limit bytes before now × (code : List ℕ) × (tiny_body bytes ≡ Ok code)
+    × (instrs : List Instr) × (bare_code code ≡ Ok instrs) × (first_failing 8 0 instrs ≡ Some offset)
 NotBuilt index file before now Memory = Unit {0}
 NotBuilt index file before now _ = ⊥
 

@@ -1,11 +1,15 @@
 -- Running CIL: ECMA-335 I.12.3.2 for the state, and partition III for what each instruction does.
-use Rattle.std.specs.Prelude.{ℕ, ℤ, ◌==◌, List, [], ◌∷◌, find, Option, Some, None}
+use Rattle.std.specs.Prelude.{ℕ, ℤ, ◌+ℤ◌, ◌-ℤ◌, ◌*ℤ◌, ◌==◌, List, [], ◌∷◌, find, Option, Some, None}
 use Rattle.num_core.specs.Run.{Run, Running, Ended, Stopped, Streams, after}
+use Rattle.num_core.specs.Integers.{number, held}
+use Rattle.num_core.specs.declared.kind.Kind.TheVariants.{I4}
 use Rattle.rv_step.specs.Machine.{low_bits}
 use Rattle.il_code.specs.declared.body.Body.{Body}
 use Rattle.il_code.specs.declared.body.Instr.{Instr}
 use Rattle.il_code.specs.declared.operation.Operation.{Operation}
-use Rattle.il_code.specs.declared.operation.Operation.TheVariants.{Constant, Return}
+use Rattle.il_code.specs.declared.operation.Operation.TheVariants.{NoOperation, Constant, Duplicate, Discard, Binary, Return}
+use Rattle.il_code.specs.declared.operation.BinaryOperation.{BinaryOperation}
+use Rattle.il_code.specs.declared.operation.BinaryOperation.TheVariants.{Add, Subtract, Multiply}
 use Rattle.il_code.specs.Operations.{operation_of}
 
 -- what a slot of the evaluation stack holds (I.12.3.2.1)
@@ -36,6 +40,28 @@ no_step streams = Stopped NoStep streams
 abbrev pub goes_on : Instr → List Slot → List Frame → Streams → Run CilState CilCause
 goes_on i stack below streams = Running (record { frames = record { offset = i.next; stack = stack } ∷ below }) streams
 
+-- `dup` (III.3.34): the top once more
+abbrev pub duplicates : Instr → List Slot → List Frame → Streams → Run CilState CilCause
+duplicates i (top ∷ stack) below streams = goes_on i (top ∷ top ∷ stack) below streams
+duplicates i [] below streams = no_step streams
+
+-- `pop` (III.3.54): the stack without its top
+abbrev pub discards : Instr → List Slot → List Frame → Streams → Run CilState CilCause
+discards i (top ∷ stack) below streams = goes_on i stack below streams
+discards i [] below streams = no_step streams
+
+-- `add`, `sub` and `mul` (III.3.1, III.3.64, III.3.48) of whole numbers
+abbrev pub result_of : BinaryOperation → ℤ → ℤ → ℤ
+result_of Add a b = a +ℤ b
+result_of Subtract a b = a -ℤ b
+result_of Multiply a b = a *ℤ b
+
+-- the wrapped result of the number below the top and that on top, in their place
+abbrev pub combines : BinaryOperation → Instr → List Slot → List Frame → Streams → Run CilState CilCause
+combines operation i (Int32 b ∷ Int32 a ∷ stack) below streams =
+    goes_on i (Int32 (held I4 (result_of operation (number I4 a) (number I4 b))) ∷ stack) below streams
+combines operation i _ below streams = no_step streams
+
 -- `ret` (III.3.56): the method that the program begins with ends it, with the low byte of its result
 abbrev pub returns : List Slot → List Frame → Streams → Run CilState CilCause
 returns (Int32 n ∷ []) [] streams = Ended (low_bits 8 n) streams
@@ -44,7 +70,11 @@ returns _ _ streams = no_step streams
 -- what an instruction does to the innermost frame and those below it
 abbrev pub performs : Option Operation → Instr → Frame → List Frame → Streams → Run CilState CilCause
 performs None i frame below streams = no_step streams
+performs (Some NoOperation) i frame below streams = goes_on i frame.stack below streams
 performs (Some (Constant n)) i frame below streams = goes_on i (Int32 n ∷ frame.stack) below streams
+performs (Some Duplicate) i frame below streams = duplicates i frame.stack below streams
+performs (Some Discard) i frame below streams = discards i frame.stack below streams
+performs (Some (Binary operation)) i frame below streams = combines operation i frame.stack below streams
 performs (Some Return) i frame below streams = returns frame.stack below streams
 
 abbrev pub on_instruction : Option Instr → Frame → List Frame → Streams → Run CilState CilCause

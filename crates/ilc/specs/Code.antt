@@ -1,16 +1,19 @@
 -- The instructions of a machine that do what CIL instructions do.
-use Rattle.std.specs.Prelude.{ℕ, ◌+◌, ◌/◌, ◌%◌, ◌^◌, ℤ, pos, List, [], ◌∷◌, Option, Some, None}
+use Rattle.std.specs.Prelude.{ℕ, ◌+◌, ◌-◌, ◌*◌, ◌/◌, ◌%◌, ◌^◌, ℤ, pos, List, [], ◌∷◌, ◌++◌, Option, Some, None}
 use Rattle.std.specs.List.{flat_map}
 use Rattle.byteorder.specs.Endian.{little_bytes}
 use Rattle.il_code.specs.declared.body.Instr.{Instr}
 use Rattle.il_code.specs.declared.operation.Operation.{Operation}
-use Rattle.il_code.specs.declared.operation.Operation.TheVariants.{Constant, Return}
+use Rattle.il_code.specs.declared.operation.Operation.TheVariants.{NoOperation, Constant, Duplicate, Discard, Binary, Return}
+use Rattle.il_code.specs.declared.operation.BinaryOperation.{BinaryOperation}
+use Rattle.il_code.specs.declared.operation.BinaryOperation.TheVariants.{Add, Subtract, Multiply}
 use Rattle.il_code.specs.Operations.{operation_of}
 use Rattle.rv_isa.specs.declared.ins.Ins.{Ins}
-use Rattle.rv_isa.specs.declared.ins.Ins.TheVariants.{Lui, Addi, Addiw, Ecall}
+use Rattle.rv_isa.specs.declared.ins.Ins.TheVariants.{Lui, Ld, Sd, Addi, Addiw, Addw, Subw, Mulw, Ecall}
 use Rattle.rv_isa.specs.Operands.{signed}
 use Rattle.rv_isa.specs.Instructions.{word_of}
 use Rattle.rv_step.specs.Machine.{low_bits}
+use Rattle.ilc.specs.Typing.{depth_behind}
 
 -- the upper 20 bits and the signed lower 12 whose sum has the lowest 32 bits of n
 abbrev pub upper : ℤ → ℕ
@@ -23,24 +26,70 @@ lower n = signed 12 (low_bits 32 n % 4096)
 abbrev pub constant_code : ℕ → ℤ → List Ins
 constant_code rd n = Lui rd (upper n) ∷ Addiw rd rd (lower n) ∷ []
 
--- the program ends: the call of the environment with number 93 in a7 (x17)
+-- ---- the evaluation stack in memory: 8 bytes a slot, the deepest first, each a number with its sign extended
+
+-- the page of 4,096 bytes at which it begins: that behind the headers and the text, which fill one page at most
+abbrev pub stack_page : ℕ
+stack_page = 17
+
+-- t0 (x5) gets its address
+abbrev pub stack_address : Ins
+stack_address = Lui 5 stack_page
+
+-- how far from there the slot of a number lies
+abbrev pub slot : ℕ → ℤ
+slot k = pos (8 * k)
+
+-- the value in a slot to a register, and that in t1 (x6) to a slot
+abbrev pub load_slot : ℕ → ℕ → Ins
+load_slot rd k = Ld rd 5 (slot k)
+
+abbrev pub store_slot : ℕ → Ins
+store_slot k = Sd 5 6 (slot k)
+
+-- ---- what each operation becomes, on a stack of a depth
+
+-- t1 (x6) gets what it and t2 (x7) give, wrapped
+abbrev pub binary_instruction : BinaryOperation → Ins
+binary_instruction Add = Addw 6 6 7
+binary_instruction Subtract = Subw 6 6 7
+binary_instruction Multiply = Mulw 6 6 7
+
+-- `addi x0, x0, 0`, which does nothing
+abbrev pub no_operation : Ins
+no_operation = Addi 0 0 (pos 0)
+
+-- the program ends with what is in a0 (x10): the call of the environment with number 93 in a7 (x17)
 abbrev pub exit_code : List Ins
 exit_code = Addi 17 0 (pos 93) ∷ Ecall ∷ []
 
--- the value on the evaluation stack stands in a0 (x10)
-abbrev pub operation_code : Operation → List Ins
-operation_code (Constant n) = constant_code 10 n
-operation_code Return = exit_code
+abbrev pub operation_code : ℕ → Operation → List Ins
+operation_code depth NoOperation = no_operation ∷ []
+operation_code depth (Constant n) = constant_code 6 n ++ stack_address ∷ store_slot depth ∷ []
+operation_code depth Duplicate = stack_address ∷ load_slot 6 (depth - 1) ∷ store_slot depth ∷ []
+operation_code depth Discard = no_operation ∷ []
+operation_code depth (Binary operation) =
+    stack_address ∷ load_slot 6 (depth - 2) ∷ load_slot 7 (depth - 1) ∷ binary_instruction operation
+    ∷ store_slot (depth - 2) ∷ []
+operation_code depth Return = stack_address ∷ load_slot 10 (depth - 1) ∷ exit_code
 
-abbrev pub optional_code : Option Operation → List Ins
-optional_code None = []
-optional_code (Some operation) = operation_code operation
+abbrev pub optional_code : ℕ → Option Operation → List Ins
+optional_code depth None = []
+optional_code depth (Some operation) = operation_code depth operation
 
-abbrev pub instr_code : Instr → List Ins
-instr_code i = optional_code (operation_of i.op i.operand)
+abbrev pub optional_depth : ℕ → Option Operation → ℕ
+optional_depth depth None = depth
+optional_depth depth (Some operation) = depth_behind depth operation
+
+-- the code of instructions that are done one after another on a stack of a depth
+abbrev pub code_from : ℕ → List Instr → List Ins
+code_from depth [] = []
+code_from depth (i ∷ instrs) =
+    optional_code depth (operation_of i.op i.operand)
+    ++ code_from (optional_depth depth (operation_of i.op i.operand)) instrs
 
 abbrev pub code_of : List Instr → List Ins
-code_of instrs = flat_map instr_code instrs
+code_of instrs = code_from 0 instrs
 
 -- the bytes of the instructions, one word after another, the lowest byte first
 abbrev pub text_of : List Ins → List ℕ

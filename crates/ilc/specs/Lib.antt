@@ -1,4 +1,5 @@
 pub mod Cil
+pub mod Typing
 pub mod Code
 pub mod Bare
 pub mod Implements

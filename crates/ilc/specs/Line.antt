@@ -7,7 +7,7 @@ use Rattle.rv_step.specs.declared.trap.Cause.{Cause}
 use Rattle.rv_step.specs.declared.trap.Cause.TheVariants.{Fetch, Load, Store, Illegal, Call}
 use Rattle.ilc.specs.Words.{word_at}
 use Rattle.ilc.specs.declared.outcome.Outcome.{Outcome}
-use Rattle.ilc.specs.declared.outcome.Outcome.TheVariants.{Usage, NoFile, TooLong, BadHeader, OpcodeOutside, BadElf, ReadFault, WriteFault, Spent, Trapped, Ended, Written, Memory}
+use Rattle.ilc.specs.declared.outcome.Outcome.TheVariants.{Usage, NoFile, TooLong, BadHeader, OpcodeOutside, Unverified, BadElf, ReadFault, WriteFault, Spent, Trapped, Ended, Written, Memory}
 
 -- what the process ends with
 abbrev pub status_of : Outcome → ℕ
@@ -18,6 +18,7 @@ status_of (NoFile word) = 66
 status_of (BadHeader word offset) = 65
 status_of (BadElf word place) = 65
 status_of (OpcodeOutside offset) = 69
+status_of (Unverified offset) = 70
 status_of (TooLong size) = 71
 status_of WriteFault = 73
 status_of ReadFault = 74
@@ -54,6 +55,7 @@ line_parts words WriteFault = codes "ilc: write fault\n" ∷ []
 line_parts words (BadHeader word offset) = codes "ilc: 9 BadHeader " ∷ word_at words word ∷ codes " " ∷ decimal offset ∷ newline ∷ []
 line_parts words (BadElf word place) = codes "ilc: 30 BadElf " ∷ word_at words word ∷ codes " " ∷ decimal place ∷ newline ∷ []
 line_parts words (OpcodeOutside offset) = codes "ilc: 24 OpcodeOutside " ∷ body_method ∷ codes " " ∷ decimal offset ∷ newline ∷ []
+line_parts words (Unverified offset) = codes "ilc: 20 Unverified " ∷ body_method ∷ codes " " ∷ decimal offset ∷ newline ∷ []
 line_parts words (TooLong size) = codes "ilc: limit file " ∷ decimal size ∷ newline ∷ []
 line_parts words (Spent steps) = codes "ilc: 21 Spent " ∷ decimal steps ∷ newline ∷ []
 line_parts words (Trapped trap) = codes "ilc: 29 Trap " ∷ hexadecimal trap.pc ∷ codes " " ∷ cause_name trap.cause ∷ newline ∷ []

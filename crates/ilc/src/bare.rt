@@ -1,10 +1,10 @@
-ghost use Rattle.std.specs.Prelude.{◌≡◌, ◌<◌, ◌^◌, [], ◌∷◌, ℕ, length, IfOk, IfErr, OnErr, Ok, Err};
-ghost use Rattle.il_code.specs.Tiny.{tiny_body};
-ghost use Rattle.ilc.specs.Bare.{bare_code, is_constant as is_constant_operation, is_return as is_return_operation, ReadsBare};
-ghost use Rattle.ilc.specs.Cause.{NotBare, IsOutside};
-ghost use Rattle.il_code.specs.Operations.{operation_of};
+ghost use Rattle.std.specs.Prelude.{◌≡◌, ◌<◌, ◌^◌, [], length, IfOk, IfErr, Ok, None};
+ghost use Rattle.ilc.specs.Bare.{bare_code, is_return as is_return_operation, ReadsBare};
+ghost use Rattle.ilc.specs.Cause.{NotBare, NotBareCode};
+ghost use Rattle.ilc.specs.Typing.{first_failing as first_failing_of};
 
 use crate::outcome::Outcome;
+use crate::typing::first_failing;
 use il_code::{Body, BodyFault, Instr, Operation, instruction_at, tiny_code};
 use num_core::List;
 use std::alloc::Global;
@@ -12,7 +12,7 @@ use std::alloc::Global;
 /// The greatest depth of the evaluation stack under a tiny header (ECMA-335 II.25.4.2).
 const TINY_MAX_STACK: u16 = 8;
 
-/// The bare body in the bytes of the file that the word at an index names.
+/// The bare body in the bytes of the file that the word at an index names, if it is verified.
 pub(crate) fn read_bare(alloc: Global, bytes: &[u8], word: usize) -> Result<Body, Outcome>
     requires { length bytes.now < 2 ^ 32 }
     ensures body { IfOk result (λ body. ReadsBare bytes.now body) }
@@ -24,56 +24,59 @@ pub(crate) fn read_bare(alloc: Global, bytes: &[u8], word: usize) -> Result<Body
     }
 }
 
-/// The body of code that is a constant and a return.
+/// The body of the code behind a tiny header, if it is bare and verified.
 fn read_code(alloc: Global, code: &[u8]) -> Result<Body, Outcome>
-    requires { length code.now < 2 ^ 32 }
+    requires { length code.now < 64 }
     ensures code { IfOk result (λ body. bare_code code.now ≡ Ok body.code) }
     ensures header { IfOk result (λ body. (body.max_stack ≡ 8) × (body.locals ≡ 0) × (body.clauses ≡ [])) }
-    ensures refused { IfErr result (IsOutside code.now) }
+    ensures verified { IfOk result (λ body. first_failing_of 8 0 body.code ≡ None) }
+    ensures refused { IfErr result (NotBareCode code.now) }
 {
-    let Some(load) = instruction_at(code, 0) else {
-        return Err(Outcome::OpcodeOutside { offset: 0 });
+    let instrs = match instructions(alloc, code) {
+        Ok(instrs) => instrs,
+        Err(outcome) => return Err(outcome),
     };
-    if !is_constant(&load) {
-        return Err(Outcome::OpcodeOutside { offset: 0 });
+    match first_failing(TINY_MAX_STACK, instrs.as_slice()) {
+        Some(offset) => Err(Outcome::Unverified { offset }),
+        None => Ok(Body {
+            max_stack: TINY_MAX_STACK,
+            locals: 0,
+            code: instrs,
+            clauses: List::new(alloc),
+        }),
     }
-    let behind = load.next;
-    let Some(ret) = instruction_at(code, behind) else {
-        return Err(Outcome::OpcodeOutside { offset: behind });
-    };
-    if !is_return(&ret) {
-        return Err(Outcome::OpcodeOutside { offset: behind });
-    }
-    if ret.next as usize != code.len() {
-        return Err(Outcome::OpcodeOutside { offset: ret.next });
-    }
-    bare_body(alloc, load, ret)
 }
 
-/// The body of two instructions.
-fn bare_body(alloc: Global, load: Instr, ret: Instr) -> Result<Body, Outcome>
-    ensures body { IfOk result (λ body. body ≡ record { max_stack = 8; locals = 0; code = load ∷ ret ∷ []; clauses = [] }) }
-    ensures memory { OnErr result (result ≡ Err Outcome.Memory) }
+/// The instructions of code whose last is its one return.
+fn instructions(alloc: Global, code: &[u8]) -> Result<List<Instr>, Outcome>
+    requires { length code.now < 64 }
+    ensures code { IfOk result (λ instrs. bare_code code.now ≡ Ok instrs) }
+    ensures refused { IfErr result (NotBareCode code.now) }
 {
-    let mut code = List::new(alloc);
-    code.push(load).map_err(|_| Outcome::Memory)?;
-    code.push(ret).map_err(|_| Outcome::Memory)?;
-    Ok(Body {
-        max_stack: TINY_MAX_STACK,
-        locals: 0,
-        code,
-        clauses: List::new(alloc),
-    })
+    let mut instrs = List::new(alloc);
+    let mut at = 0;
+    while instrs.len() < code.len() {
+        let Some(instr) = instruction_at(code, at) else {
+            return Err(Outcome::OpcodeOutside { offset: at });
+        };
+        let Some(operation) = instr.operation() else {
+            return Err(Outcome::OpcodeOutside { offset: instr.at });
+        };
+        at = instr.next;
+        instrs.push(instr).map_err(|_| Outcome::Memory)?;
+        if is_return(operation) {
+            return if at as usize == code.len() {
+                Ok(instrs)
+            } else {
+                Err(Outcome::OpcodeOutside { offset: at })
+            };
+        }
+    }
+    Err(Outcome::OpcodeOutside { offset: at })
 }
 
-fn is_constant(instr: &Instr) -> bool
-    ensures { result ≡ is_constant_operation (operation_of instr.now.op instr.now.operand) }
+fn is_return(operation: Operation) -> bool
+    ensures { result ≡ is_return_operation operation }
 {
-    matches!(instr.operation(), Some(Operation::Constant(_)))
-}
-
-fn is_return(instr: &Instr) -> bool
-    ensures { result ≡ is_return_operation (operation_of instr.now.op instr.now.operand) }
-{
-    matches!(instr.operation(), Some(Operation::Return))
+    matches!(operation, Operation::Return)
 }

@@ -1,20 +1,25 @@
-ghost use Rattle.std.specs.Prelude.{◌≡◌, ◌≤◌, ◌++◌, IfOk, OnOk};
-ghost use Rattle.ilc.specs.Bare.{IsConstant};
+ghost use Rattle.std.specs.Prelude.{◌≡◌, ◌+◌, ◌<◌, ◌≤◌, ◌++◌, ℕ, List, length, IfOk, OnOk};
+ghost use Rattle.ilc.specs.Bare.{ReadsBare};
 ghost use Rattle.ilc.specs.Implements.{Implements};
-ghost use Rattle.ilc.specs.Code.{constant_code, exit_code, operation_code, instr_code, code_of, text_of, upper as upper_of, lower as lower_of};
+ghost use Rattle.ilc.specs.Code.{constant_code, exit_code, operation_code, code_of, text_of, upper as upper_of, lower as lower_of, stack_address as stack_address_is, load_slot as load_slot_is, store_slot as store_slot_is, binary_instruction as binary_instruction_is, no_operation as no_operation_is, slot as slot_is};
 
+use crate::typing::depth_behind;
 use byteorder::{ByteOrder, LittleEndian};
 use elf_file::{ElfLayout, TEXT_AT, write_elf};
-use il_code::{Body, Instr, Operation};
+use il_code::{BinaryOperation, Body, Instr, Operation};
 use num_core::{Bounds, Bytes, List, Memory};
 use rv_isa::{Immediate, Ins, Register, UpperImmediate, encode};
 use std::alloc::Global;
+
+/// The page of 4,096 bytes at which the evaluation stack begins in memory.
+const STACK_PAGE: u32 = 17;
 
 /// The number of the environment's call that ends a program.
 const EXIT: i16 = 93;
 
 /// The zeros behind the text, in which a program has its heap and its stack.
 fn zeros(bounds: Bounds) -> u64
+    ensures value { result ≡ bounds.heap + bounds.stack }
     ensures bound { result ≤ 335544320 }
 {
     bounds.heap + bounds.stack
@@ -22,7 +27,7 @@ fn zeros(bounds: Bounds) -> u64
 
 /// The executable file of a bare body, which does what the body does.
 pub(crate) fn compile(alloc: Global, body: &Body) -> Result<Bytes, Memory>
-    requires { IsConstant body.now }
+    requires { (bytes : List ℕ) × ReadsBare bytes body.now }
     ensures { IfOk result (Implements body.now) }
 {
     let code = code(alloc, body.code.as_slice())?;
@@ -38,30 +43,144 @@ pub(crate) fn compile(alloc: Global, body: &Body) -> Result<Bytes, Memory>
 
 /// The instructions of a machine for those of a body.
 fn code(alloc: Global, instrs: &[Instr]) -> Result<Vec<Ins>, Memory>
+    requires { length instrs.now < 64 }
     ensures { IfOk result (λ code. code.items ≡ code_of instrs.now) }
 {
     let mut code = Vec::new(alloc);
+    let mut depth = 0;
     for instr in instrs {
-        emit_instr(&mut code, instr)?;
+        if let Some(operation) = instr.operation() {
+            emit(&mut code, depth, operation)?;
+            depth = depth_behind(depth, operation);
+        }
     }
     Ok(code)
 }
 
-fn emit_instr(code: &mut Vec<Ins>, instr: &Instr) -> Result<(), Memory>
-    ensures { OnOk result (code.new.items ≡ code.old.items ++ instr_code instr.now) }
+/// The instructions for an operation on a stack of a depth.
+fn emit(code: &mut Vec<Ins>, depth: u32, operation: Operation) -> Result<(), Memory>
+    requires { depth < 128 }
+    ensures { OnOk result (code.new.items ≡ code.old.items ++ operation_code depth operation) }
 {
-    match instr.operation() {
-        Some(operation) => emit(code, operation),
-        None => Ok(()),
+    match operation {
+        Operation::NoOperation | Operation::Discard => {
+            code.push(no_operation())?;
+            Ok(())
+        }
+        Operation::Constant(number) => emit_load_constant(code, depth, number),
+        Operation::Duplicate => emit_duplicate(code, depth),
+        Operation::Binary(operation) => emit_binary(code, depth, operation),
+        Operation::Return => emit_return(code, depth),
     }
 }
 
-fn emit(code: &mut Vec<Ins>, operation: Operation) -> Result<(), Memory>
-    ensures { OnOk result (code.new.items ≡ code.old.items ++ operation_code operation) }
+/// A constant comes on top of the stack.
+fn emit_load_constant(code: &mut Vec<Ins>, depth: u32, number: i32) -> Result<(), Memory>
+    requires { depth < 128 }
+    ensures { OnOk result (code.new.items ≡ code.old.items ++ operation_code depth (Operation.Constant number)) }
 {
+    emit_constant(code, t1(), number)?;
+    code.push(stack_address())?;
+    code.push(store_slot(depth))?;
+    Ok(())
+}
+
+/// The top of the stack comes on it once more.
+fn emit_duplicate(code: &mut Vec<Ins>, depth: u32) -> Result<(), Memory>
+    requires { depth < 128 }
+    ensures { OnOk result (code.new.items ≡ code.old.items ++ operation_code depth Operation.Duplicate) }
+{
+    code.push(stack_address())?;
+    code.push(load_slot(t1(), depth.saturating_sub(1)))?;
+    code.push(store_slot(depth))?;
+    Ok(())
+}
+
+/// What the two values on top of the stack give takes their place.
+fn emit_binary(code: &mut Vec<Ins>, depth: u32, operation: BinaryOperation) -> Result<(), Memory>
+    requires { depth < 128 }
+    ensures { OnOk result (code.new.items ≡ code.old.items ++ operation_code depth (Operation.Binary operation)) }
+{
+    code.push(stack_address())?;
+    code.push(load_slot(t1(), depth.saturating_sub(2)))?;
+    code.push(load_slot(t2(), depth.saturating_sub(1)))?;
+    code.push(binary_instruction(operation))?;
+    code.push(store_slot(depth.saturating_sub(2)))?;
+    Ok(())
+}
+
+/// The program ends with the low byte of the top of the stack.
+fn emit_return(code: &mut Vec<Ins>, depth: u32) -> Result<(), Memory>
+    requires { depth < 128 }
+    ensures { OnOk result (code.new.items ≡ code.old.items ++ operation_code depth Operation.Return) }
+{
+    code.push(stack_address())?;
+    code.push(load_slot(a0(), depth.saturating_sub(1)))?;
+    emit_exit(code)
+}
+
+/// t0 gets the address of the evaluation stack.
+fn stack_address() -> Ins
+    ensures { result ≡ stack_address_is }
+{
+    Ins::Lui {
+        rd: t0(),
+        imm: UpperImmediate::of(STACK_PAGE),
+    }
+}
+
+/// A register gets the value in a slot.
+fn load_slot(rd: Register, number: u32) -> Ins
+    requires { number < 128 }
+    ensures { result ≡ load_slot_is rd number }
+{
+    Ins::Ld {
+        rd,
+        rs1: t0(),
+        imm: slot(number),
+    }
+}
+
+/// A slot gets the value of t1.
+fn store_slot(number: u32) -> Ins
+    requires { number < 128 }
+    ensures { result ≡ store_slot_is number }
+{
+    Ins::Sd {
+        rs1: t0(),
+        rs2: t1(),
+        imm: slot(number),
+    }
+}
+
+/// How far a slot of 8 bytes lies from the first.
+fn slot(number: u32) -> Immediate
+    requires { number < 128 }
+    ensures { result ≡ slot_is number }
+{
+    Immediate::of(8 * number as i16)
+}
+
+/// t1 gets what it and t2 give, wrapped at 32 bits.
+fn binary_instruction(operation: BinaryOperation) -> Ins
+    ensures { result ≡ binary_instruction_is operation }
+{
+    let (rd, rs1, rs2) = (t1(), t1(), t2());
     match operation {
-        Operation::Constant(number) => emit_constant(code, a0(), number),
-        Operation::Return => emit_exit(code),
+        BinaryOperation::Add => Ins::Addw { rd, rs1, rs2 },
+        BinaryOperation::Subtract => Ins::Subw { rd, rs1, rs2 },
+        BinaryOperation::Multiply => Ins::Mulw { rd, rs1, rs2 },
+    }
+}
+
+/// The instruction that does nothing.
+fn no_operation() -> Ins
+    ensures { result ≡ no_operation_is }
+{
+    Ins::Addi {
+        rd: x0(),
+        rs1: x0(),
+        imm: Immediate::of(0),
     }
 }
 
@@ -113,6 +232,24 @@ fn x0() -> Register
     ensures { result ≡ 0 }
 {
     Register::of(0)
+}
+
+fn t0() -> Register
+    ensures { result ≡ 5 }
+{
+    Register::of(5)
+}
+
+fn t1() -> Register
+    ensures { result ≡ 6 }
+{
+    Register::of(6)
+}
+
+fn t2() -> Register
+    ensures { result ≡ 7 }
+{
+    Register::of(7)
 }
 
 fn a0() -> Register

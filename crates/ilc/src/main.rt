@@ -8,6 +8,7 @@ mod outcome;
 mod perform;
 mod report;
 mod top;
+mod typing;
 
 pub use command::Command;
 use ilc_io::{HostFiles, StreamSink, StreamSource};

@@ -16,6 +16,8 @@ pub enum Outcome {
     BadHeader { word: usize, offset: u32 },
     /// The code of a body isn't one that is accepted: the offset of the first instruction that isn't so.
     OpcodeOutside { offset: u32 },
+    /// The code of a body isn't verified: the least offset that fails.
+    Unverified { offset: u32 },
     /// A file is no executable that loads: the place of the header at which it isn't.
     BadElf { word: usize, place: u64 },
     /// A call of the store or of the input failed.
@@ -45,6 +47,7 @@ impl Outcome {
             Outcome::BadHeader { .. } | Outcome::BadElf { .. } => 65,
             Outcome::NoFile { .. } => 66,
             Outcome::OpcodeOutside { .. } => 69,
+            Outcome::Unverified { .. } => 70,
             Outcome::TooLong { .. } => 71,
             Outcome::WriteFault => 73,
             Outcome::ReadFault => 74,

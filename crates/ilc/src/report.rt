@@ -52,16 +52,16 @@ pub(crate) fn report<S: Sink>(sink: &mut S, words: &[Text], outcome: &Outcome) -
         }
         Outcome::OpcodeOutside { offset } => {
             let offset = decimal(&mut number, offset as u64);
+            let method = body_method();
             write_pieces(
                 sink,
-                &[
-                    b"ilc: 24 OpcodeOutside ",
-                    body_method(),
-                    b" ",
-                    offset,
-                    b"\n",
-                ],
+                &[b"ilc: 24 OpcodeOutside ", method, b" ", offset, b"\n"],
             )
+        }
+        Outcome::Unverified { offset } => {
+            let offset = decimal(&mut number, offset as u64);
+            let method = body_method();
+            write_pieces(sink, &[b"ilc: 20 Unverified ", method, b" ", offset, b"\n"])
         }
         Outcome::Trapped(trap) => {
             let (digits, at) = hex(trap.pc);

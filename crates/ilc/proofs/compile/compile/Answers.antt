@@ -1,12 +1,24 @@
-use Rattle.std.proofs.Common.{◌≡◌, ◌∙◌, ap, refl}
+use Rattle.std.proofs.Common.{◌≡◌, ◌∙◌, ◌+◌, ◌<◌, ◌≤◌, length, ap, refl, arith}
 use Rattle.std.proofs.lemmas.Result.{IfOk-weaker}
 use Rattle.ilc.specs.Code.{code_of, text_of}
-use Rattle.ilc.proofs.Compiled.{implements}
+use Rattle.ilc.proofs.Compiled.{implements, short_text}
+use Rattle.ilc.proofs.Straight.{few_instructions}
 use Rattle.ilc.proofs.compile.compile.Goals as goal
+
+pub code-requires : goal.code-requires
+code-requires c = omega (arith, ap length c.as_slice.ensures, few_instructions c.requires.0 c.args.body.now c.requires.1)
+
+pub write_elf-requires-clause-text_fits : goal.write_elf-requires-clause-text_fits
+write_elf-requires-clause-text_fits c =
+    omega (
+      arith,
+      ap length (c.in_ok-text.ensures ∙ ap text_of (c.as_slice-2.ensures.value ∙ c.in_ok-code.ensures ∙ ap code_of c.as_slice.ensures)),
+      short_text c.requires.0 c.args.body.now c.requires.1,
+    )
 
 pub returns : goal.returns
 returns c =
     IfOk-weaker c.write_elf.result _ _
-    (λ file loads. implements c.args.body.now c.requires _ file c.write_elf.ensures.text_at
-    (c.in_ok-text.ensures ∙ ap text_of (c.as_slice-2.ensures.value ∙ c.in_ok-code.ensures ∙ ap code_of c.as_slice.ensures)) refl loads)
+    (λ file loads. implements c.requires.0 c.args.body.now c.requires.1 _ file c.write_elf.ensures.text_at
+    (c.in_ok-text.ensures ∙ ap text_of (c.as_slice-2.ensures.value ∙ c.in_ok-code.ensures ∙ ap code_of c.as_slice.ensures)) refl (c.zeros.ensures.value ∙ omega (arith, c.standard.ensures.heap, c.standard.ensures.stack)) loads)
     c.write_elf.ensures.loads

@@ -45,14 +45,26 @@ returns-in-BadElf-clause-printed g c =
 pub returns-in-OpcodeOutside-clause-printed : goal.returns-in-OpcodeOutside-clause-printed
 returns-in-OpcodeOutside-clause-printed g c =
     printed_as c.write_pieces-in-OpcodeOutside.result _ _ _ _
-    (four_parts (codes "ilc: 24 OpcodeOutside ") _ _ _ _ c.body_method.ensures c.decimal-offset-in-OpcodeOutside.ensures ∙ ap (line_of c.args.words.now) (sym c.in-OpcodeOutside.is))
+    (four_parts (codes "ilc: 24 OpcodeOutside ") _ _ _ _ c.body_method-method.ensures c.decimal-offset-in-OpcodeOutside.ensures ∙ ap (line_of c.args.words.now) (sym c.in-OpcodeOutside.is))
     c.write_pieces-in-OpcodeOutside.ensures.written
 
 pub returns-in-OpcodeOutside-clause-broken_off : goal.returns-in-OpcodeOutside-clause-broken_off
 returns-in-OpcodeOutside-clause-broken_off g c =
     begun_as c.write_pieces-in-OpcodeOutside.result _ _ _ _
-    (four_parts (codes "ilc: 24 OpcodeOutside ") _ _ _ _ c.body_method.ensures c.decimal-offset-in-OpcodeOutside.ensures ∙ ap (line_of c.args.words.now) (sym c.in-OpcodeOutside.is))
+    (four_parts (codes "ilc: 24 OpcodeOutside ") _ _ _ _ c.body_method-method.ensures c.decimal-offset-in-OpcodeOutside.ensures ∙ ap (line_of c.args.words.now) (sym c.in-OpcodeOutside.is))
     c.write_pieces-in-OpcodeOutside.ensures.broken_off
+
+pub returns-in-Unverified-clause-printed : goal.returns-in-Unverified-clause-printed
+returns-in-Unverified-clause-printed g c =
+    printed_as c.write_pieces-in-Unverified.result _ _ _ _
+    (four_parts (codes "ilc: 20 Unverified ") _ _ _ _ c.body_method-method-in-Unverified.ensures c.decimal-offset-in-Unverified.ensures ∙ ap (line_of c.args.words.now) (sym c.in-Unverified.is))
+    c.write_pieces-in-Unverified.ensures.written
+
+pub returns-in-Unverified-clause-broken_off : goal.returns-in-Unverified-clause-broken_off
+returns-in-Unverified-clause-broken_off g c =
+    begun_as c.write_pieces-in-Unverified.result _ _ _ _
+    (four_parts (codes "ilc: 20 Unverified ") _ _ _ _ c.body_method-method-in-Unverified.ensures c.decimal-offset-in-Unverified.ensures ∙ ap (line_of c.args.words.now) (sym c.in-Unverified.is))
+    c.write_pieces-in-Unverified.ensures.broken_off
 
 pub returns-in-Trapped-clause-printed : goal.returns-in-Trapped-clause-printed
 returns-in-Trapped-clause-printed g c =

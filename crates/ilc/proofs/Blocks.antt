@@ -1,0 +1,255 @@
+-- What the code of each operation does to the evaluation stack in memory.
+use Rattle.std.proofs.Common.{◌≡◌, ◌∙◌, ◌≢◌, ℕ, zero, suc, ◌+◌, ◌-◌, ◌*◌, ◌%◌, ◌^◌, ◌<◌, ◌≤◌, ℤ, pos, negsuc, ◌+ℤ◌, ◌-ℤ◌, ◌*ℤ◌, List, [], ◌∷◌, ◌++◌, length, take, drop, arith, refl, ap, sym, subst, Option, Some, None, slice_get, slice_index, slice_set, FitsSigned}
+use Rattle.std.proofs.lemmas.Int.{ints}
+use Rattle.std.specs.Int.{w32}
+use Rattle.byteorder.specs.Endian.{little_bytes}
+use Rattle.num_core.specs.Integers.{number, held}
+use Rattle.num_core.specs.declared.kind.Kind.TheVariants.{I4}
+use Rattle.num_core.specs.Run.{Run, Running, Ended, Streams, after, one_more}
+use Rattle.il_code.specs.declared.operation.Operation.{Operation}
+use Rattle.il_code.specs.declared.operation.Operation.TheVariants.{NoOperation, Constant, Duplicate, Discard, Binary, Return}
+use Rattle.il_code.specs.declared.operation.BinaryOperation.{BinaryOperation}
+use Rattle.il_code.specs.declared.operation.BinaryOperation.TheVariants.{Add, Subtract, Multiply}
+use Rattle.rv_isa.specs.declared.ins.Ins.{Ins}
+use Rattle.rv_isa.specs.declared.ins.Ins.TheVariants.{Lui, Ld, Addi, Addiw, Ecall}
+use Rattle.rv_isa.specs.Operands.{IsImmediate}
+use Rattle.rv_isa.specs.Instructions.{IsLegal}
+use Rattle.rv_step.specs.Machine.{MachineState, machine_step, effect, gives, register, low_bits, low_word, next_pc, request, answers}
+use Rattle.rv_step.specs.declared.segment.Segment.{Segment}
+use Rattle.rv_step.specs.declared.trap.Trap.{Trap}
+use Rattle.ilc.specs.Cil.{result_of}
+use Rattle.ilc.specs.Code.{upper, lower, slot, stack_address, load_slot, store_slot, binary_instruction, no_operation, operation_code}
+use Rattle.ilc.proofs.Constants.{constant_value, lower_is_immediate}
+use Rattle.ilc.proofs.Place.{StandsAt, BlockAt, steps_at, stands_next, within}
+use Rattle.ilc.proofs.Registers.{HasRegisters, Gets, has_registers, register_same, register_other, low_byte}
+use Rattle.ilc.proofs.Slots.{Holds, HasSlots, stack_at, loads_slot, stores_slot, with_slot, still_slots, pushed}
+use Rattle.ilc.proofs.Values.{low_bits-small, sum_value, difference_value, product_value}
+
+-- The machine stands at the k-th instruction of the code, with a stack in memory.
+pub record OnStack (front : List ℕ) (code : List Ins) (text slots : Segment) (k : ℕ) (stack : List ℤ) (m : MachineState) : Type 0 where
+  pub at : StandsAt front code text slots k m
+  pub has : HasRegisters m
+  pub memory : HasSlots text slots
+  pub holds : Holds stack slots.bytes
+
+-- In 1 to 24 steps, all of them at instructions of the code, the machine comes to another place and stack.
+pub record Went (front : List ℕ) (code : List Ins) (text : Segment) (place : ℕ) (stack : List ℤ) (m : MachineState) (streams : Streams) : Type 0 where
+  pub count : ℕ
+  pub few : count < 24
+  pub machine : MachineState
+  pub slots : Segment
+  pub runs : after machine_step (suc count) (Running m streams) ≡ Running machine streams
+  pub on : OnStack front code text slots place stack machine
+
+-- one more step of a run
+then : {m : MachineState} {streams : Streams} {run : Run MachineState Trap} (n : ℕ) (start : Run MachineState Trap) → after machine_step n start ≡ Running m streams → machine_step m streams ≡ run → after machine_step (suc n) start ≡ run
+then n start so_far step = ap (one_more machine_step) so_far ∙ step
+
+-- ---- single instructions
+
+-- a register got a value
+record Given (front : List ℕ) (code : List Ins) (text slots : Segment) (k r value : ℕ) (m : MachineState) (streams : Streams) : Type 0 where
+  machine : MachineState
+  steps : machine_step m streams ≡ Running machine streams
+  at : StandsAt front code text slots (suc k) machine
+  has : HasRegisters machine
+  gets : Gets r value m machine
+
+given : {front : List ℕ} {code : List Ins} {text slots : Segment} {k : ℕ} {m : MachineState} (r value : ℕ) (streams : Streams) (ins : Ins) → StandsAt front code text slots k m → HasRegisters m → slice_get code k ≡ Some ins → IsLegal ins → effect ins m streams ≡ gives m (suc r) value streams → Given front code text slots k (suc r) value m streams
+given {front} {code} {text} {slots} {k} {m} r value streams ins at has there legal is =
+    let m' : MachineState = record { pc = next_pc m; registers = slice_set m.registers (suc r) value; segments = m.segments } in
+    let gets : Gets (suc r) value m m' = record { registers = refl } in
+    record {
+      machine = m';
+      steps = steps_at front code text slots k m streams ins at there legal ∙ is;
+      at = stands_next front code text slots slots k m m' at (within code k ins there) refl at.memory;
+      has = has_registers (suc r) value m m' (omega arith) has gets;
+      gets = gets;
+    }
+
+-- t0 has the address of the stack
+record Addressed (front : List ℕ) (code : List Ins) (text slots : Segment) (k : ℕ) (m : MachineState) (streams : Streams) : Type 0 where
+  value : ℕ
+  given : Given front code text slots k 5 value m streams
+  base : register given.machine 5 ≡ stack_at
+
+addressed : {front : List ℕ} {code : List Ins} {text slots : Segment} {k : ℕ} {m : MachineState} (streams : Streams) → StandsAt front code text slots k m → HasRegisters m → slice_get code k ≡ Some stack_address → Addressed front code text slots k m streams
+addressed {front} {code} {text} {slots} {k} {m} streams at has there =
+    let v : ℕ = low_word (pos (17 * 2 ^ 12)) in
+    let value : v ≡ stack_at = omega arith in
+    let g : Given front code text slots k 5 v m streams = given 4 v streams stack_address at has there (omega arith, omega arith) refl in
+    record { value = v; given = g; base = register_same 5 v m g.machine (omega arith) has g.gets ∙ value }
+
+slot_legal : (rd k : ℕ) → rd < 32 → k < 9 → IsLegal (load_slot rd k)
+slot_legal rd k h h' = (h, omega arith, (omega (arith, ints), omega (arith, ints)))
+
+-- a register got the number in a slot
+loaded : {front : List ℕ} {code : List Ins} {text slots : Segment} {k : ℕ} {m : MachineState} (r j : ℕ) (n : ℤ) (streams : Streams) → StandsAt front code text slots k m → HasRegisters m → HasSlots text slots → slice_get code k ≡ Some (load_slot (suc r) j) → suc r < 32 → j < 9 → register m 5 ≡ stack_at → take 8 (drop (8 * j) slots.bytes) ≡ little_bytes 8 (low_bits 64 n) → Given front code text slots k (suc r) (low_bits 64 n) m streams
+loaded {front} {code} {text} {slots} {k} {m} r j n streams at has memory there h h' base holds =
+    given r (low_bits 64 n) streams (load_slot (suc r) j) at has there (slot_legal (suc r) j h h')
+    (loads_slot text slots j (suc r) (low_bits 64 n) m streams h' (low_bits-small n) memory at.memory base holds)
+
+-- a slot got the number in t1
+record Stored (front : List ℕ) (code : List Ins) (text slots : Segment) (k j v : ℕ) (m : MachineState) (streams : Streams) : Type 0 where
+  machine : MachineState
+  steps : machine_step m streams ≡ Running machine streams
+  at : StandsAt front code text (with_slot j v slots) (suc k) machine
+  has : HasRegisters machine
+  memory : HasSlots text (with_slot j v slots)
+
+stored : {front : List ℕ} {code : List Ins} {text slots : Segment} {k : ℕ} {m : MachineState} (j v : ℕ) (streams : Streams) → StandsAt front code text slots k m → HasRegisters m → HasSlots text slots → slice_get code k ≡ Some (store_slot j) → j < 9 → register m 5 ≡ stack_at → register m 6 ≡ v → Stored front code text slots k j v m streams
+stored {front} {code} {text} {slots} {k} {m} j v streams at has memory there h base value =
+    let m' : MachineState = record { pc = next_pc m; registers = m.registers; segments = text ∷ with_slot j v slots ∷ [] } in
+    let legal : IsLegal (store_slot j) = (omega arith, omega arith, (omega (arith, ints), omega (arith, ints))) in
+    record {
+      machine = m';
+      steps = steps_at front code text slots k m streams (store_slot j) at there legal ∙ stores_slot text slots j v m streams h memory at.memory base value;
+      at = stands_next front code text slots (with_slot j v slots) k m m' at (within code k (store_slot j) there) refl refl;
+      has = record { count = has.count; x0 = has.x0 };
+      memory = still_slots text slots j v h memory;
+    }
+
+-- ---- the code of each operation
+
+-- the instruction that does nothing, where another stack stands in the same slots
+pub went_nowhere : {front : List ℕ} {code : List Ins} {text slots : Segment} {k : ℕ} {m : MachineState} (stack stack' : List ℤ) (streams : Streams) → OnStack front code text slots k stack m → BlockAt code k (no_operation ∷ []) → Holds stack' slots.bytes → Went front code text (suc k) stack' m streams
+went_nowhere {front} {code} {text} {slots} {k} {m} stack stack' streams on block holds =
+    let m' : MachineState = record { pc = next_pc m; registers = m.registers; segments = m.segments } in
+    let legal : IsLegal no_operation = (omega arith, omega arith, (omega (arith, ints), omega (arith, ints))) in
+    let step : machine_step m streams ≡ Running m' streams = steps_at front code text slots k m streams no_operation on.at block.0 legal in
+    record {
+      count = 0;
+      few = omega arith;
+      machine = m';
+      slots = slots;
+      runs = step;
+      on = record {
+        at = stands_next front code text slots slots k m m' on.at (within code k no_operation block.0) refl on.at.memory;
+        has = record { count = on.has.count; x0 = on.has.x0 };
+        memory = on.memory;
+        holds = holds;
+      };
+    }
+
+pub went_constant : {front : List ℕ} {code : List Ins} {text slots : Segment} {k : ℕ} {m : MachineState} (stack : List ℤ) (n : ℤ) (streams : Streams) → FitsSigned w32 n → length stack ≤ 8 → OnStack front code text slots k stack m → BlockAt code k (operation_code (length stack) (Constant n)) → Went front code text (suc (suc (suc (suc k)))) (n ∷ stack) m streams
+went_constant {front} {code} {text} {slots} {k} {m} stack n streams fits h on block =
+    let v : ℕ = low_word (pos (upper n * 2 ^ 12)) in
+    let g1 : Given front code text slots k 6 v m streams = given 5 v streams (Lui 6 (upper n)) on.at on.has block.0 (omega arith, omega arith) refl in
+    let w : ℕ = low_word (pos (register g1.machine 6) +ℤ lower n) in
+    let g2 : Given front code text slots (suc k) 6 w g1.machine streams = given 5 w streams (Addiw 6 6 (lower n)) g1.at g1.has block.1.0 (omega arith, omega arith, lower_is_immediate n) refl in
+    let number : register g2.machine 6 ≡ low_bits 64 n =
+    register_same 6 w g1.machine g2.machine (omega arith) g1.has g2.gets
+    ∙ ap (λ x. low_word (pos x +ℤ lower n)) (register_same 6 v m g1.machine (omega arith) on.has g1.gets)
+    ∙ constant_value n fits in
+    let a : Addressed front code text slots (suc (suc k)) g2.machine streams = addressed streams g2.at g2.has block.1.1.0 in
+    let ne : 6 ≢ 5 = omega arith in
+    let value : register a.given.machine 6 ≡ low_bits 64 n = register_other 5 6 a.value g2.machine a.given.machine ne a.given.gets ∙ number in
+    let s : Stored front code text slots (suc (suc (suc k))) (length stack) (low_bits 64 n) a.given.machine streams =
+    stored (length stack) (low_bits 64 n) streams a.given.at a.given.has on.memory block.1.1.1.0 (omega arith) a.base value in
+    record {
+      count = 3;
+      few = omega arith;
+      machine = s.machine;
+      slots = with_slot (length stack) (low_bits 64 n) slots;
+      runs = then 3 (Running m streams) (then 2 (Running m streams) (then 1 (Running m streams) g1.steps g2.steps) a.given.steps) s.steps;
+      on = record { at = s.at; has = s.has; memory = s.memory; holds = pushed stack n slots.bytes (omega (arith, on.memory.room)) on.holds };
+    }
+
+pub went_duplicate : {front : List ℕ} {code : List Ins} {text slots : Segment} {k : ℕ} {m : MachineState} (stack : List ℤ) (n : ℤ) (streams : Streams) → length (n ∷ stack) ≤ 8 → OnStack front code text slots k (n ∷ stack) m → BlockAt code k (operation_code (length (n ∷ stack)) Duplicate) → Went front code text (suc (suc (suc k))) (n ∷ n ∷ stack) m streams
+went_duplicate {front} {code} {text} {slots} {k} {m} stack n streams h on block =
+    let d : ℕ = length (n ∷ stack) in
+    let top : d - 1 ≡ length stack = omega arith in
+    let a : Addressed front code text slots k m streams = addressed streams on.at on.has block.0 in
+    let g : Given front code text slots (suc k) 6 (low_bits 64 n) a.given.machine streams =
+    loaded 5 (d - 1) n streams a.given.at a.given.has on.memory block.1.0 (omega arith) (omega arith) a.base (ap (λ j. take 8 (drop (8 * j) slots.bytes)) top ∙ on.holds.0) in
+    let ne : 5 ≢ 6 = omega arith in
+    let base : register g.machine 5 ≡ stack_at = register_other 6 5 (low_bits 64 n) a.given.machine g.machine ne g.gets ∙ a.base in
+    let value : register g.machine 6 ≡ low_bits 64 n = register_same 6 (low_bits 64 n) a.given.machine g.machine (omega arith) a.given.has g.gets in
+    let s : Stored front code text slots (suc (suc k)) d (low_bits 64 n) g.machine streams =
+    stored d (low_bits 64 n) streams g.at g.has on.memory block.1.1.0 (omega arith) base value in
+    record {
+      count = 2;
+      few = omega arith;
+      machine = s.machine;
+      slots = with_slot d (low_bits 64 n) slots;
+      runs = then 2 (Running m streams) (then 1 (Running m streams) a.given.steps g.steps) s.steps;
+      on = record { at = s.at; has = s.has; memory = s.memory; holds = pushed (n ∷ stack) n slots.bytes (omega (arith, on.memory.room)) on.holds };
+    }
+
+-- what t1 and t2 give
+binary_legal : (operation : BinaryOperation) → IsLegal (binary_instruction operation)
+binary_legal Add = (omega arith, omega arith, omega arith)
+binary_legal Subtract = (omega arith, omega arith, omega arith)
+binary_legal Multiply = (omega arith, omega arith, omega arith)
+
+binary_effect : (operation : BinaryOperation) (a b : ℤ) (m : MachineState) (streams : Streams) → register m 6 ≡ low_bits 64 a → register m 7 ≡ low_bits 64 b → effect (binary_instruction operation) m streams ≡ gives m 6 (low_bits 64 (held I4 (result_of operation (number I4 a) (number I4 b)))) streams
+binary_effect Add a b m streams p q =
+    ap (λ x. gives m 6 (low_word (pos x +ℤ pos (register m 7))) streams) p
+    ∙ ap (λ y. gives m 6 (low_word (pos (low_bits 64 a) +ℤ pos y)) streams) q
+    ∙ ap (λ v. gives m 6 v streams) (sum_value a b)
+binary_effect Subtract a b m streams p q =
+    ap (λ x. gives m 6 (low_word (pos x -ℤ pos (register m 7))) streams) p
+    ∙ ap (λ y. gives m 6 (low_word (pos (low_bits 64 a) -ℤ pos y)) streams) q
+    ∙ ap (λ v. gives m 6 v streams) (difference_value a b)
+binary_effect Multiply a b m streams p q =
+    ap (λ x. gives m 6 (low_word (pos x *ℤ pos (register m 7))) streams) p
+    ∙ ap (λ y. gives m 6 (low_word (pos (low_bits 64 a) *ℤ pos y)) streams) q
+    ∙ ap (λ v. gives m 6 v streams) (product_value a b)
+
+pub went_binary : {front : List ℕ} {code : List Ins} {text slots : Segment} {k : ℕ} {m : MachineState} (stack : List ℤ) (operation : BinaryOperation) (a b : ℤ) (streams : Streams) → length (b ∷ a ∷ stack) ≤ 8 → OnStack front code text slots k (b ∷ a ∷ stack) m → BlockAt code k (operation_code (length (b ∷ a ∷ stack)) (Binary operation)) → Went front code text (suc (suc (suc (suc (suc k))))) (held I4 (result_of operation (number I4 a) (number I4 b)) ∷ stack) m streams
+went_binary {front} {code} {text} {slots} {k} {m} stack operation a b streams h on block =
+    let d : ℕ = length (b ∷ a ∷ stack) in
+    let below : d - 2 ≡ length stack = omega arith in
+    let top : d - 1 ≡ length (a ∷ stack) = omega arith in
+    let c : ℤ = held I4 (result_of operation (number I4 a) (number I4 b)) in
+    let t0 : Addressed front code text slots k m streams = addressed streams on.at on.has block.0 in
+    let t1 : Given front code text slots (suc k) 6 (low_bits 64 a) t0.given.machine streams =
+    loaded 5 (d - 2) a streams t0.given.at t0.given.has on.memory block.1.0 (omega arith) (omega arith) t0.base (ap (λ j. take 8 (drop (8 * j) slots.bytes)) below ∙ on.holds.1.0) in
+    let ne56 : 5 ≢ 6 = omega arith in
+    let base1 : register t1.machine 5 ≡ stack_at = register_other 6 5 (low_bits 64 a) t0.given.machine t1.machine ne56 t1.gets ∙ t0.base in
+    let t2 : Given front code text slots (suc (suc k)) 7 (low_bits 64 b) t1.machine streams =
+    loaded 6 (d - 1) b streams t1.at t1.has on.memory block.1.1.0 (omega arith) (omega arith) base1 (ap (λ j. take 8 (drop (8 * j) slots.bytes)) top ∙ on.holds.0) in
+    let ne57 : 5 ≢ 7 = omega arith in
+    let ne67 : 6 ≢ 7 = omega arith in
+    let base2 : register t2.machine 5 ≡ stack_at = register_other 7 5 (low_bits 64 b) t1.machine t2.machine ne57 t2.gets ∙ base1 in
+    let first : register t2.machine 6 ≡ low_bits 64 a =
+    register_other 7 6 (low_bits 64 b) t1.machine t2.machine ne67 t2.gets
+    ∙ register_same 6 (low_bits 64 a) t0.given.machine t1.machine (omega arith) t0.given.has t1.gets in
+    let second : register t2.machine 7 ≡ low_bits 64 b = register_same 7 (low_bits 64 b) t1.machine t2.machine (omega arith) t1.has t2.gets in
+    let r : Given front code text slots (suc (suc (suc k))) 6 (low_bits 64 c) t2.machine streams =
+    given 5 (low_bits 64 c) streams (binary_instruction operation) t2.at t2.has block.1.1.1.0 (binary_legal operation) (binary_effect operation a b t2.machine streams first second) in
+    let base3 : register r.machine 5 ≡ stack_at = register_other 6 5 (low_bits 64 c) t2.machine r.machine ne56 r.gets ∙ base2 in
+    let value : register r.machine 6 ≡ low_bits 64 c = register_same 6 (low_bits 64 c) t2.machine r.machine (omega arith) t2.has r.gets in
+    let s : Stored front code text slots (suc (suc (suc (suc k)))) (d - 2) (low_bits 64 c) r.machine streams =
+    stored (d - 2) (low_bits 64 c) streams r.at r.has on.memory block.1.1.1.1.0 (omega arith) base3 value in
+    let holds : Holds (c ∷ stack) (with_slot (d - 2) (low_bits 64 c) slots).bytes =
+    subst (λ j. Holds (c ∷ stack) (with_slot j (low_bits 64 c) slots).bytes) (sym below) (pushed stack c slots.bytes (omega (arith, on.memory.room)) on.holds.1.1) in
+    record {
+      count = 4;
+      few = omega arith;
+      machine = s.machine;
+      slots = with_slot (d - 2) (low_bits 64 c) slots;
+      runs = then 4 (Running m streams) (then 3 (Running m streams) (then 2 (Running m streams) (then 1 (Running m streams) t0.given.steps t1.steps) t2.steps) r.steps) s.steps;
+      on = record { at = s.at; has = s.has; memory = s.memory; holds = holds };
+    }
+
+-- The end of the program, by four steps.
+pub went_home : {front : List ℕ} {code : List Ins} {text slots : Segment} {k : ℕ} {m : MachineState} (n : ℤ) (streams : Streams) → OnStack front code text slots k (n ∷ []) m → BlockAt code k (operation_code 1 Return) → after machine_step 4 (Running m streams) ≡ Ended (low_bits 8 n) streams
+went_home {front} {code} {text} {slots} {k} {m} n streams on block =
+    let t0 : Addressed front code text slots k m streams = addressed streams on.at on.has block.0 in
+    let a0 : Given front code text slots (suc k) 10 (low_bits 64 n) t0.given.machine streams =
+    loaded 9 0 n streams t0.given.at t0.given.has on.memory block.1.0 (omega arith) (omega arith) t0.base on.holds.0 in
+    let v : ℕ = low_bits 64 (pos (register a0.machine 0) +ℤ pos 93) in
+    let a7 : Given front code text slots (suc (suc k)) 17 v a0.machine streams =
+    given 16 v streams (Addi 17 0 (pos 93)) a0.at a0.has block.1.1.0 (omega arith, omega arith, (omega (arith, ints), omega (arith, ints))) refl in
+    let number : register a7.machine 17 ≡ 93 = register_same 17 v a0.machine a7.machine (omega arith) a0.has a7.gets ∙ ap (λ x. low_bits 64 (pos x +ℤ pos 93)) a0.has.x0 in
+    let ne : 10 ≢ 17 = omega arith in
+    let status : register a7.machine 10 ≡ low_bits 64 n =
+    register_other 17 10 v a0.machine a7.machine ne a7.gets
+    ∙ register_same 10 (low_bits 64 n) t0.given.machine a0.machine (omega arith) t0.given.has a0.gets in
+    let ends : machine_step a7.machine streams ≡ Ended (low_bits 8 n) streams =
+    steps_at front code text slots (suc (suc (suc k))) a7.machine streams Ecall a7.at block.1.1.1.0 tt
+    ∙ ap (λ x. answers (request x (register a7.machine 10)) a7.machine streams) number
+    ∙ ap (λ x. Ended (x % 256) streams) status
+    ∙ ap (λ x. Ended x streams) (low_byte n) in
+    then 3 (Running m streams) (then 2 (Running m streams) (then 1 (Running m streams) t0.given.steps a0.steps) a7.steps) ends

@@ -1,0 +1,11 @@
+use Rattle.std.proofs.Common.{◌≡◌, ◌-◌, length}
+use Rattle.ilc.specs.Bare.{bare_code, bare_from}
+use Rattle.ilc.proofs.Reading.{all_in_front}
+use Rattle.ilc.proofs.bare.instructions.Given as goal
+
+-- those that were read, and what is left, make up the code
+abbrev pub invariant-loop-instr : goal.invariant-loop-instr
+invariant-loop-instr l = bare_code l.code ≡ all_in_front l.instrs (bare_from (length l.code - length l.instrs) l.code l.at)
+
+abbrev pub decreases-loop-instr : goal.decreases-loop-instr
+decreases-loop-instr l = length l.code - length l.instrs
