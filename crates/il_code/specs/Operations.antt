@@ -39,3 +39,4 @@ operation_of Ret _ = Some Return
 operation_of Add _ = Some (Binary BinaryOperation.Add)
 operation_of Sub _ = Some (Binary BinaryOperation.Subtract)
 operation_of Mul _ = Some (Binary BinaryOperation.Multiply)
+operation_of _ _ = None

@@ -31,7 +31,7 @@ pub enum BinaryOperation {
 }
 
 impl Instr {
-    /// What the instruction does. None where its operand is of no form that its opcode has.
+    /// What the instruction does. None where it isn't one of these, or its operand is of no form that its opcode has.
     pub fn operation(&self) -> Option<Operation>
         ensures { result ≡ operation_of self.now.op self.now.operand }
     {
@@ -54,6 +54,7 @@ impl Instr {
             Op::Add => Some(Operation::Binary(BinaryOperation::Add)),
             Op::Sub => Some(Operation::Binary(BinaryOperation::Subtract)),
             Op::Mul => Some(Operation::Binary(BinaryOperation::Multiply)),
+            _ => None,
         }
     }
 }

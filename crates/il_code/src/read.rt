@@ -1,12 +1,19 @@
-ghost use Rattle.std.specs.Prelude.{◌≡◌, ◌+◌, ◌*◌, ◌<◌, ◌≤◌, ◌^◌, ◌∷◌, length, drop, Ok, Err, IfOk, MatchResult};
-ghost use Rattle.std.specs.Option.{option_map};
-ghost use Rattle.il_code.specs.Instructions.{operand_of, instruction_at as instruction_in};
+ghost use Rattle.std.specs.Prelude.{◌≡◌, ◌+◌, ◌-◌, ◌*◌, ◌<◌, ◌≤◌, ◌^◌, ◌∷◌, pos, negsuc, ◌≤ℤ◌, length, slice_index, drop, Ok, Err, IfOk, IfSome, MatchResult};
+ghost use Rattle.std.specs.Int.{cast_signed, w8};
+ghost use Rattle.byteorder.specs.Endian.{little_number, twos_complement};
+ghost use Rattle.il_code.specs.Instructions.{operand_of, fixed_size as fixed_size_of, fixed_operand as fixed_operand_of, target_of, targets_of, opcode_number as opcode_number_of, instruction_at as instruction_in};
+ghost use Rattle.il_code.specs.declared.opcode.OperandForm.TheVariants.{Targets as TargetsForm};
 ghost use Rattle.il_code.specs.Tiny.{tiny_body, at_offset};
 
 use crate::body::{Instr, Operand};
 use crate::opcode::{OperandForm, opcode};
 use byteorder::{ByteOrder, LittleEndian};
+use num_core::{List, Memory};
+use std::alloc::Global;
 use thiserror::Error;
+
+/// The first byte of the opcodes of two bytes.
+const PREFIX: u8 = 0xFE;
 
 /// Why bytes are no method body.
 #[derive(Clone, Copy, Debug, PartialEq, Eq, Error)]
@@ -41,36 +48,175 @@ pub fn tiny_code(bytes: &[u8]) -> Result<&[u8], BodyFault>
 }
 
 /// The instruction that stands whole at an offset of the code, if one does (ECMA-335 III.1.2).
-pub fn instruction_at(code: &[u8], at: u32) -> Option<Instr>
-    requires { length code.now < 2 ^ 32 }
-    ensures { result ≡ instruction_in code.now at }
+pub fn instruction_at(alloc: Global, code: &[u8], at: u32) -> Result<Option<Instr>, Memory>
+    requires { length code.now < 2 ^ 31 }
+    ensures { IfOk result (λ found. found ≡ instruction_in code.now at) }
 {
-    let (byte, rest) = code.get(at as usize..)?.split_first()?;
-    let (op, form) = opcode(*byte)?;
-    let (operand, size) = operand(form, rest)?;
-    Some(Instr {
-        at,
-        next: at + 1 + size,
-        op,
-        operand,
-    })
+    let Some(bytes) = code.get(at as usize..) else {
+        return Ok(None);
+    };
+    let Some((number, size)) = opcode_number(bytes) else {
+        return Ok(None);
+    };
+    let Some((op, form)) = opcode(number) else {
+        return Ok(None);
+    };
+    let behind = at + size;
+    match operand(alloc, form, behind, &bytes[size as usize..])? {
+        Some((operand, length)) => Ok(Some(Instr {
+            at,
+            next: behind + length,
+            op,
+            operand,
+        })),
+        None => Ok(None),
+    }
 }
 
-/// The operand at the front of the bytes, and how many of them it takes.
-fn operand(form: OperandForm, bytes: &[u8]) -> Option<(Operand, u32)>
-    ensures value { result ≡ operand_of form bytes.now }
+/// The number of the opcode at the front of the bytes, and how many of them it takes.
+fn opcode_number(bytes: &[u8]) -> Option<(u16, u32)>
+    ensures number { result ≡ opcode_number_of bytes.now }
+    ensures within { IfSome result (λ number. number.1 ≤ length bytes.now) }
+{
+    let (first, rest) = bytes.split_first()?;
+    if *first != PREFIX {
+        return Some((*first as u16, 1));
+    }
+    let second = rest.first()?;
+    Some((0xFE00 + *second as u16, 2))
+}
+
+/// The operand at the front of the bytes, which stand at the offset `at`, and how many of them it takes.
+fn operand(
+    alloc: Global,
+    form: OperandForm,
+    at: u32,
+    bytes: &[u8],
+) -> Result<Option<(Operand, u32)>, Memory>
+    requires { at + length bytes.now < 2 ^ 31 }
+    ensures value { IfOk result (λ found. found ≡ operand_of form at bytes.now) }
+    ensures within { IfOk result (λ found. IfSome found (λ operand. operand.1 ≤ length bytes.now)) }
 {
     match form {
-        OperandForm::Absent => Some((Operand::Nothing, 0)),
-        OperandForm::Signed8 => {
-            let byte = bytes.first()?;
-            Some((Operand::Number(byte.cast_signed() as i64), 1))
-        }
-        OperandForm::Signed32 => {
-            if bytes.len() < 4 {
-                return None;
+        OperandForm::Targets => targets_operand(alloc, at, bytes),
+        OperandForm::Absent
+        | OperandForm::Unsigned8
+        | OperandForm::Unsigned16
+        | OperandForm::Signed8
+        | OperandForm::Signed32
+        | OperandForm::Signed64
+        | OperandForm::Token
+        | OperandForm::Target8
+        | OperandForm::Target32 => {
+            let size = fixed_size(form);
+            if bytes.len() < size as usize {
+                return Ok(None);
             }
-            Some((Operand::Number(LittleEndian::read_i32(bytes) as i64), 4))
+            Ok(Some((fixed_operand(form, at, bytes), size)))
         }
     }
+}
+
+/// How many bytes an operand of a form takes, but for targets.
+fn fixed_size(form: OperandForm) -> u32
+    ensures { result ≡ fixed_size_of form }
+{
+    match form {
+        OperandForm::Absent => 0,
+        OperandForm::Unsigned8 | OperandForm::Signed8 | OperandForm::Target8 => 1,
+        OperandForm::Unsigned16 => 2,
+        OperandForm::Signed32
+        | OperandForm::Token
+        | OperandForm::Target32
+        | OperandForm::Targets => 4,
+        OperandForm::Signed64 => 8,
+    }
+}
+
+/// The operand of a form that these bytes spell, which stand at the offset `at`.
+fn fixed_operand(form: OperandForm, at: u32, bytes: &[u8]) -> Operand
+    requires whole { fixed_size_of form ≤ length bytes.now }
+    requires fits { at + length bytes.now < 2 ^ 31 }
+    ensures { result ≡ fixed_operand_of form at bytes.now }
+{
+    match form {
+        OperandForm::Absent | OperandForm::Targets => Operand::Nothing,
+        OperandForm::Unsigned8 => Operand::Number(bytes[0] as i64),
+        OperandForm::Unsigned16 => Operand::Number(LittleEndian::read_u16(bytes) as i64),
+        OperandForm::Signed8 => Operand::Number(bytes[0].cast_signed() as i64),
+        OperandForm::Signed32 => Operand::Number(LittleEndian::read_i32(bytes) as i64),
+        OperandForm::Signed64 => Operand::Number(LittleEndian::read_i64(bytes)),
+        OperandForm::Token => Operand::Token(LittleEndian::read_u32(bytes)),
+        OperandForm::Target8 => Operand::Target(short_target(at + 1, bytes)),
+        OperandForm::Target32 => Operand::Target(long_target(at + 4, bytes)),
+    }
+}
+
+/// The offset at a distance of one byte from that of the next instruction.
+fn short_target(next: u32, bytes: &[u8]) -> u32
+    requires { 1 ≤ length bytes.now }
+    ensures { result ≡ target_of next (cast_signed w8 (slice_index bytes.now 0)) }
+{
+    target(next, bytes[0].cast_signed() as i64)
+}
+
+/// The offset at a distance of four bytes from that of the next instruction.
+fn long_target(next: u32, bytes: &[u8]) -> u32
+    requires { 4 ≤ length bytes.now }
+    ensures { result ≡ target_of next (twos_complement 4 (little_number 4 bytes.now)) }
+{
+    target(next, LittleEndian::read_i32(bytes) as i64)
+}
+
+/// The offset at a distance from that of the next instruction, in its lowest 32 bits, so that what lies before the
+/// code comes out behind it.
+fn target(next: u32, distance: i64) -> u32
+    requires near { negsuc (2 ^ 31 - 1) ≤ℤ distance }
+    requires far { distance ≤ℤ pos (2 ^ 31 - 1) }
+    ensures { result ≡ target_of next distance }
+{
+    (next as i64 + distance).rem_euclid(0x1_0000_0000) as u32
+}
+
+/// The targets at the front of the bytes, with their number before them.
+fn targets_operand(
+    alloc: Global,
+    at: u32,
+    bytes: &[u8],
+) -> Result<Option<(Operand, u32)>, Memory>
+    requires { at + length bytes.now < 2 ^ 31 }
+    ensures value { IfOk result (λ found. found ≡ operand_of TargetsForm at bytes.now) }
+    ensures within { IfOk result (λ found. IfSome found (λ operand. operand.1 ≤ length bytes.now)) }
+{
+    if bytes.len() < 4 {
+        return Ok(None);
+    }
+    let count = LittleEndian::read_u32(bytes);
+    let size = 4 + 4 * count as u64;
+    if (bytes.len() as u64) < size {
+        return Ok(None);
+    }
+    let targets = targets(alloc, at + size as u32, &bytes[4..], count as usize)?;
+    Ok(Some((Operand::Targets(targets), size as u32)))
+}
+
+/// So many targets, each a distance of four bytes.
+fn targets(alloc: Global, next: u32, bytes: &[u8], count: usize) -> Result<List<u32>, Memory>
+    requires { 4 * count ≤ length bytes.now }
+    ensures { IfOk result (λ targets. targets ≡ targets_of next count bytes.now) }
+{
+    let mut targets = List::new(alloc);
+    for index in 0..count {
+        let target = target_in(next, bytes, index);
+        targets.push(target).map_err(|_| Memory)?;
+    }
+    Ok(targets)
+}
+
+/// The target of a number among distances of four bytes each.
+fn target_in(next: u32, bytes: &[u8], index: usize) -> u32
+    requires { 4 * (index + 1) ≤ length bytes.now }
+    ensures { result ≡ target_of next (twos_complement 4 (little_number 4 (drop (4 * index) bytes.now))) }
+{
+    long_target(next, &bytes[4 * index..])
 }
