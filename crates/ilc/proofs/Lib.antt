@@ -4,7 +4,9 @@ pub mod Registers
 pub mod Simulation
 pub mod Compiled
 pub mod Words
+pub mod StepCount
 pub mod Printing
 pub mod BareBody
 pub mod Hex
+pub mod Counted
 pub mod Answers
