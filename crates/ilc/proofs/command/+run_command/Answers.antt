@@ -1,5 +1,5 @@
 -- The slices that the splits give make up the words.
-use Rattle.std.proofs.Common.{◌≡◌, ◌∙◌, ◌∷◌, ap, sym}
+use Rattle.std.proofs.Common.{◌∙◌, ◌∷◌, ap, sym}
 use Rattle.ilc.specs.Words.{run_words}
 use Rattle.ilc.proofs.Words.{run-steps, run-count, run-name}
 use Rattle.ilc.proofs.command.+run_command.Goals as goal

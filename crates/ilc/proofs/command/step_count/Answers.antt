@@ -1,5 +1,5 @@
 -- A number is spelled exactly where `parse` gives one whose digits are the word.
-use Rattle.std.proofs.Common.{◌≡◌, ◌∙◌, sym, arith, None, Some}
+use Rattle.std.proofs.Common.{◌∙◌, sym, arith, None, Some}
 use Rattle.ilc.proofs.StepCount.{spells, spelled_exactly, not_parsed, parsed_other, same_bytes, other_bytes}
 use Rattle.ilc.proofs.command.step_count.Goals as goal
 use Rattle.ilc.proofs.command.step_count.Goals.{else-number-le-MOST_STEPS-via-then-number-le-MOST_STEPS+else-eq, else-number-le-MOST_STEPS-via-else-number-le-MOST_STEPS}
