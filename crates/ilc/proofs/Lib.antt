@@ -9,6 +9,8 @@ pub mod Straight
 pub mod Simulation
 pub mod Compiled
 pub mod Words
+pub mod StepCount
 pub mod Printing
 pub mod Hex
+pub mod Counted
 pub mod Answers

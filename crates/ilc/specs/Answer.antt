@@ -2,27 +2,20 @@
 use Rattle.std.specs.Prelude.{◌≡◌, ◌⊎◌, ℕ, List, Option, Some}
 use Rattle.std.specs.Option.{option_map}
 use Rattle.std.specs.FinMap.{get}
-use Rattle.ilc_io.specs.Count.{HasRisen}
 use Rattle.ilc_io.specs.Store.{Store, stored}
 use Rattle.il_code.specs.declared.body.Body.{Body}
 use Rattle.ilc.specs.Bare.{ReadsBare}
 use Rattle.ilc.specs.Cause.{Cause}
 use Rattle.ilc.specs.Implements.{Implements}
 use Rattle.ilc.specs.Line.{status_of, line_of}
-use Rattle.ilc.specs.Printed.{Adds, AddsFront}
+use Rattle.ilc.specs.Printed.{Prints, BreaksOff}
 use Rattle.ilc.specs.Seen.{StoreSeen, StreamsSeen}
 use Rattle.ilc.specs.declared.outcome.Outcome.{Outcome}
 
 -- A line was printed as error text: whole, or its front where a write failed and the sink counted it. Nothing else
 -- was read or written.
-pub record Reports (line : List ℕ) (before now : StreamsSeen) : Type 0 where
-  pub rest : now.outside.rest ≡ before.outside.rest
-  pub output : now.outside.output ≡ before.outside.output
-  pub input_faults : now.input_faults ≡ before.input_faults
-  pub output_faults : now.output_faults ≡ before.output_faults
-  pub printed :
-      Adds line before.outside.error now.outside.error
-      ⊎ (AddsFront line before.outside.error now.outside.error × HasRisen before.error_faults now.error_faults)
+abbrev pub Reports : List ℕ → StreamsSeen → StreamsSeen → Type 0
+Reports line before now = Prints line before now ⊎ BreaksOff line before now
 
 -- There is an outcome that has come for its cause, whose status is the answer and whose line was printed.
 pub record Answers (words : List (List ℕ)) (before now : StoreSeen) (streams streams' : StreamsSeen) (status : ℕ) : Type 0 where

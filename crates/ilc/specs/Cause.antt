@@ -1,5 +1,5 @@
 -- When each outcome of a command comes.
-use Rattle.std.specs.Prelude.{◌≡◌, ◌⊎◌, ℕ, ◌<◌, ◌≤◌, List, [], ◌∷◌, ◌++◌, length, Option, Some, None, IfSome, Result, Ok, Err}
+use Rattle.std.specs.Prelude.{◌≡◌, ◌⊎◌, ℕ, ◌<◌, ◌≤◌, Bool, true, false, List, [], ◌∷◌, ◌++◌, length, Option, Some, None, IfSome, Result, Ok, Err}
 use Rattle.std.specs.Option.{option_map}
 use Rattle.std.specs.FinMap.{get}
 use Rattle.ilc_io.specs.Count.{HasRisen}
@@ -15,6 +15,8 @@ use Rattle.elf_file.specs.Elf.{loaded}
 use Rattle.ilc.specs.Bare.{bare_code, ReadsBare}
 use Rattle.ilc.specs.Typing.{first_failing}
 use Rattle.ilc.specs.Implements.{Implements}
+use Rattle.ilc.specs.Line.{count_line}
+use Rattle.ilc.specs.Printed.{Prints, BreaksOff}
 use Rattle.ilc.specs.Seen.{StoreSeen, StreamsSeen}
 use Rattle.ilc.specs.Words.{command_of, word_at}
 use Rattle.ilc.specs.declared.command.Command.{Command}
@@ -116,15 +118,11 @@ BodyOutcome index file out before now outcome =
     (NotBuilt index file before now outcome × SameFiles before now)
     ⊎ ((elf : List ℕ) × IsBuilt file elf before now × WriteOutcome out elf before now outcome)
 
--- ---- `run ELF`
+-- ---- `run ELF --steps N --count`
 
 -- the most bytes that an executable file may have
 abbrev pub elf_limit : ℕ
 elf_limit = 1073741824
-
--- the most steps that the machine does
-abbrev pub step_limit : ℕ
-step_limit = 1000000000000
 
 -- an executable file was read, and loads as a machine
 pub record IsLoaded (elf : List ℕ) (machine : MachineState) (before now : StoreSeen) : Type 0 where
@@ -142,24 +140,45 @@ NotLoaded index elf before now (BadElf word place) =
 NotLoaded index elf before now Memory = Unit {0}
 NotLoaded index elf before now _ = ⊥
 
--- When each outcome comes of a machine that runs.
-abbrev pub MachineOutcome : MachineState → StreamsSeen → StreamsSeen → Outcome → Type 0
-MachineOutcome machine before now (Ended status) = (steps : ℕ) × (steps ≤ step_limit) × EndsAfter machine steps status before.outside now.outside
-MachineOutcome machine before now (Spent steps) = (steps ≡ step_limit) × (new : MachineState) × GoesOn machine step_limit new before.outside now.outside
-MachineOutcome machine before now (Trapped trap) = (new : MachineState) × TrapsWithin machine step_limit trap new before.outside now.outside
-MachineOutcome machine before now ReadFault =
+-- after so many steps within a limit the program has ended, and not before; no count of faults has fallen
+pub record EndsWithin (machine : MachineState) (limit steps status : ℕ) (before now : StreamsSeen) : Type 0 where
+  pub within : steps ≤ limit
+  pub ends : EndsAfter machine steps status before.outside now.outside
+  pub input_faults : before.input_faults ≤ now.input_faults
+  pub output_faults : before.output_faults ≤ now.output_faults
+  pub error_faults : before.error_faults ≤ now.error_faults
+
+-- the line of the number of steps was printed, where it is to be
+abbrev pub IsCounted : Bool → ℕ → StreamsSeen → StreamsSeen → Type 0
+IsCounted true steps before now = Prints (count_line steps) before now
+IsCounted false steps before now = now ≡ before
+
+-- the program has ended within a limit, and the line of the number of its steps broke off
+abbrev pub CountBreaksOff : MachineState → ℕ → StreamsSeen → StreamsSeen → Type 0
+CountBreaksOff machine limit before now =
+    (steps : ℕ) × (status : ℕ) × (between : StreamsSeen)
+    × EndsWithin machine limit steps status before between × BreaksOff (count_line steps) between now
+
+-- When each outcome comes of a machine that does at most `limit` steps, and whose steps are counted or not.
+abbrev pub MachineOutcome : MachineState → ℕ → Bool → StreamsSeen → StreamsSeen → Outcome → Type 0
+MachineOutcome machine limit count before now (Ended status) =
+    (steps : ℕ) × (between : StreamsSeen) × EndsWithin machine limit steps status before between × IsCounted count steps between now
+MachineOutcome machine limit count before now (Spent steps) = (steps ≡ limit) × (new : MachineState) × GoesOn machine limit new before.outside now.outside
+MachineOutcome machine limit count before now (Trapped trap) = (new : MachineState) × TrapsWithin machine limit trap new before.outside now.outside
+MachineOutcome machine limit count before now ReadFault =
     HasRisen before.input_faults now.input_faults
-    × (new : MachineState) × ReadFailsWithin machine step_limit new before.outside now.outside
-MachineOutcome machine before now WriteFault =
-    (HasRisen before.output_faults now.output_faults ⊎ HasRisen before.error_faults now.error_faults)
-    × (new : MachineState) × WriteFailsWithin machine step_limit new before.outside now.outside
-MachineOutcome machine before now _ = ⊥
+    × (new : MachineState) × ReadFailsWithin machine limit new before.outside now.outside
+MachineOutcome machine limit count before now WriteFault =
+    ((HasRisen before.output_faults now.output_faults ⊎ HasRisen before.error_faults now.error_faults)
+    × (new : MachineState) × WriteFailsWithin machine limit new before.outside now.outside)
+    ⊎ ((count ≡ true) × CountBreaksOff machine limit before now)
+MachineOutcome machine limit count before now _ = ⊥
 
 -- Either the file wasn't loaded, and the streams are as before, or its machine ran.
-abbrev pub RunOutcome : ℕ → List ℕ → StoreSeen → StoreSeen → StreamsSeen → StreamsSeen → Outcome → Type 0
-RunOutcome index elf before now streams streams' outcome =
+abbrev pub RunOutcome : ℕ → List ℕ → ℕ → Bool → StoreSeen → StoreSeen → StreamsSeen → StreamsSeen → Outcome → Type 0
+RunOutcome index elf limit count before now streams streams' outcome =
     (NotLoaded index elf before now outcome × (streams' ≡ streams))
-    ⊎ ((machine : MachineState) × IsLoaded elf machine before now × MachineOutcome machine streams streams' outcome)
+    ⊎ ((machine : MachineState) × IsLoaded elf machine before now × MachineOutcome machine limit count streams streams' outcome)
 
 -- ---- any command
 
@@ -169,8 +188,8 @@ CommandOutcome (Err index) words before now streams streams' outcome =
     (outcome ≡ Usage index) × (now ≡ before) × (streams' ≡ streams)
 CommandOutcome (Ok (Body file out)) words before now streams streams' outcome =
     BodyOutcome file (word_at words file) (word_at words out) before now outcome × (streams' ≡ streams)
-CommandOutcome (Ok (Run elf)) words before now streams streams' outcome =
-    RunOutcome elf (word_at words elf) before now streams streams' outcome × SameFiles before now
+CommandOutcome (Ok (Run elf steps count)) words before now streams streams' outcome =
+    RunOutcome elf (word_at words elf) steps count before now streams streams' outcome × SameFiles before now
 
 -- the cause of an outcome
 abbrev pub Cause : List (List ℕ) → StoreSeen → StoreSeen → StreamsSeen → StreamsSeen → Outcome → Type 0

@@ -63,3 +63,10 @@ line_parts words Memory = codes "ilc: memory\n" ∷ []
 
 abbrev pub line_of : List (List ℕ) → Outcome → List ℕ
 line_of words outcome = flat_map (λ part. part) (line_parts words outcome)
+
+-- what `--count` prints of a number of machine steps, in its parts
+abbrev pub count_parts : ℕ → List (List ℕ)
+count_parts steps = codes "steps " ∷ decimal steps ∷ newline ∷ []
+
+abbrev pub count_line : ℕ → List ℕ
+count_line steps = flat_map (λ part. part) (count_parts steps)

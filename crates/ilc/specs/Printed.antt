@@ -1,6 +1,8 @@
 -- What is added to what a sink holds.
 use Rattle.std.specs.Prelude.{◌≡◌, ℕ, List, ◌++◌, Option}
 use Rattle.std.specs.Option.{option_map}
+use Rattle.ilc_io.specs.Count.{HasRisen}
+use Rattle.ilc.specs.Seen.{StreamsSeen}
 
 -- the sink holds these bytes more, where it tells what it holds
 abbrev pub Adds : List ℕ → Option (List ℕ) → Option (List ℕ) → Type 0
@@ -12,3 +14,21 @@ pub record AddsFront (bytes : List ℕ) (old new : Option (List ℕ)) : Type 0 w
   pub rest : List ℕ
   pub whole : bytes ≡ front ++ rest
   pub added : Adds front old new
+
+-- nothing was read, and nothing was written but error text
+pub record SameButError (before now : StreamsSeen) : Type 0 where
+  pub rest : now.outside.rest ≡ before.outside.rest
+  pub output : now.outside.output ≡ before.outside.output
+  pub input_faults : now.input_faults ≡ before.input_faults
+  pub output_faults : now.output_faults ≡ before.output_faults
+
+-- a line was printed as error text, and nothing else was read or written
+abbrev pub Prints : List ℕ → StreamsSeen → StreamsSeen → Type 0
+Prints line before now = SameButError before now × Adds line before.outside.error now.outside.error
+
+-- the front of a line was printed as error text, where a write failed and the sink counted it
+abbrev pub BreaksOff : List ℕ → StreamsSeen → StreamsSeen → Type 0
+BreaksOff line before now =
+    SameButError before now
+    × AddsFront line before.outside.error now.outside.error
+    × HasRisen before.error_faults now.error_faults

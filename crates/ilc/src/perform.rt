@@ -7,6 +7,7 @@ use crate::bare::read_bare;
 use crate::command::{Command, parse_command};
 use crate::compile::compile;
 use crate::outcome::Outcome;
+use crate::report::report_count;
 use elf_file::{ElfFault, load_elf};
 use ilc_io::{FileFault, Files, Sink, Source, read_file, write_file};
 use num_core::{Bytes, Text};
@@ -18,9 +19,6 @@ const BODY_LIMIT: u64 = 16_777_216;
 
 /// The most bytes of an executable file.
 const ELF_LIMIT: u64 = 1_073_741_824;
-
-/// The most steps of a run.
-const STEP_LIMIT: u64 = 1_000_000_000_000;
 
 /// Does what the words say.
 pub(crate) fn perform<F: Files, I: Source, O: Sink, E: Sink>(
@@ -41,8 +39,8 @@ pub(crate) fn perform<F: Files, I: Source, O: Sink, E: Sink>(
     match parse_command(words) {
         Err(index) => Outcome::Usage { index },
         Ok(Command::Body { file, out: target }) => body(alloc, files, words, file, target),
-        Ok(Command::Run { elf }) => match load_named(alloc, files, words, elf) {
-            Ok(mut machine) => run(&mut machine, input, out, err),
+        Ok(Command::Run { elf, steps, count }) => match load_named(alloc, files, words, elf) {
+            Ok(mut machine) => run(&mut machine, input, out, err, steps, count),
             Err(outcome) => outcome,
         },
     }
@@ -153,20 +151,26 @@ fn load_named<F: Files>(
     }
 }
 
-/// Runs a machine to its end.
+/// Runs a machine for at most so many steps, and prints how many it did to its end, if they are counted.
 fn run<I: Source, O: Sink, E: Sink>(
     machine: &mut Machine,
     input: &mut I,
     out: &mut O,
     err: &mut E,
+    steps: u64,
+    count: bool,
 ) -> Outcome
-    ensures { MachineOutcome machine.old
+    ensures { MachineOutcome machine.old steps count
         (streams_seen (I.rest input.old) (O.written out.old) (E.written err.old) (I.faults input.old) (O.faults out.old) (E.faults err.old))
         (streams_seen (I.rest input.new) (O.written out.new) (E.written err.new) (I.faults input.new) (O.faults out.new) (E.faults err.new))
         result }
 {
-    match machine.run(input, out, err, STEP_LIMIT) {
-        Ok(ran) => Outcome::Ended { status: ran.status },
+    match machine.run(input, out, err, steps) {
+        Ok(ran) if !count => Outcome::Ended { status: ran.status },
+        Ok(ran) => match report_count(err, ran.steps) {
+            Ok(()) => Outcome::Ended { status: ran.status },
+            Err(_) => Outcome::WriteFault,
+        },
         Err(RunFault::Spent(steps)) => Outcome::Spent { steps },
         Err(RunFault::Trap(trap)) => Outcome::Trapped(trap),
         Err(RunFault::ReadFault) => Outcome::ReadFault,

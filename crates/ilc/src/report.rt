@@ -3,7 +3,7 @@ ghost use Rattle.std.specs.Fmt.{digit_glyph};
 ghost use Rattle.ilc.specs.Words.{word_at};
 ghost use Rattle.std.specs.List.{flat_map};
 ghost use Rattle.ilc_io.specs.Count.{HasRisen};
-ghost use Rattle.ilc.specs.Line.{line_of, hexadecimal, cause_name as name_of_cause, body_method as body_method_name};
+ghost use Rattle.ilc.specs.Line.{line_of, count_line, hexadecimal, cause_name as name_of_cause, body_method as body_method_name};
 ghost use Rattle.ilc.specs.Printed.{Adds, AddsFront};
 
 use crate::outcome::Outcome;
@@ -72,8 +72,20 @@ pub(crate) fn report<S: Sink>(sink: &mut S, words: &[Text], outcome: &Outcome) -
     }
 }
 
+/// Prints a number of machine steps. A refused write breaks the line off.
+pub(crate) fn report_count<S: Sink>(sink: &mut S, steps: u64) -> Result<(), Failed>
+    ensures printed { OnOk result (Adds (count_line steps) (S.written sink.old) (S.written sink.new)) }
+    ensures broken_off { OnErr result (AddsFront (count_line steps) (S.written sink.old) (S.written sink.new)) }
+    ensures failed { OnErr result (HasRisen (S.faults sink.old) (S.faults sink.new)) }
+    ensures faults_kept { S.faults sink.old ≤ S.faults sink.new }
+{
+    let mut number = Buffer::new();
+    let digits = decimal(&mut number, steps);
+    write_pieces(sink, &[b"steps ", digits, b"\n"])
+}
+
 /// The decimal digits of a number.
-fn decimal(buffer: &mut Buffer, number: u64) -> &[u8]
+pub(crate) fn decimal(buffer: &mut Buffer, number: u64) -> &[u8]
     ensures { result.now ≡ decimal_digits number }
 {
     buffer.format(number).as_bytes()

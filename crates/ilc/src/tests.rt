@@ -1,8 +1,16 @@
 use crate::ilc;
+use elf_file::{ElfLayout, TEXT_AT, write_elf};
 use ilc_io::{MemFiles, MemSink, MemSource};
-use num_core::{List, Text};
+use num_core::{Bytes, List, Memory, Text};
 use std::alloc::Global;
+use std::process::Abort;
 use std::test::Fail;
+
+/// Three times addi x0, x0, 0; addi a0, x0, 7; addi a7, x0, 93; ecall: six steps to the end, with status 7.
+const SIX_STEPS: [u8; 24] = [
+    0x13, 0x00, 0x00, 0x00, 0x13, 0x00, 0x00, 0x00, 0x13, 0x00, 0x00, 0x00, 0x13, 0x05, 0x70, 0x00,
+    0x93, 0x08, 0xD0, 0x05, 0x73, 0x00, 0x00, 0x00,
+];
 
 /// What a call gave: its status, what it printed, and what was printed as error text.
 #[derive(Drop)]
@@ -18,17 +26,32 @@ fn text(alloc: Global, bytes: &[u8]) -> Result<Text, Fail> {
 
 /// Calls `ilc` with the words of a line, which are parted by single spaces, over these files and no input.
 fn call(alloc: Global, files: &mut MemFiles, line: &str) -> Result<Told, Fail> {
+    call_failing(alloc, files, line, &[])
+}
+
+/// The same, where the writes of error text with these numbers fail.
+fn call_failing(
+    alloc: Global,
+    files: &mut MemFiles,
+    line: &str,
+    fail: &[u64],
+) -> Result<Told, Fail> {
     let mut words = List::new(alloc);
     for word in line.split(' ') {
         words.push(text(alloc, word.as_bytes())?)?;
     }
-    call_with(alloc, files, words.as_slice())
+    call_with(alloc, files, words.as_slice(), fail)
 }
 
-fn call_with(alloc: Global, files: &mut MemFiles, words: &[Text]) -> Result<Told, Fail> {
+fn call_with(
+    alloc: Global,
+    files: &mut MemFiles,
+    words: &[Text],
+    fail: &[u64],
+) -> Result<Told, Fail> {
     let mut input = MemSource::new(alloc, &[], &[])?;
     let mut out = MemSink::new(alloc, &[])?;
-    let mut err = MemSink::new(alloc, &[])?;
+    let mut err = MemSink::new(alloc, fail)?;
     let status = ilc(alloc, words, files, &mut input, &mut out, &mut err);
     Ok(Told { status, out, err })
 }
@@ -55,12 +78,47 @@ fn refuses(alloc: Global, body: &[u8], words: &str, status: u8, line: &str) -> R
     let mut files = with_body(alloc, body, &[])?;
     let told = call(alloc, &mut files, words)?;
     let created = files.get(&text(alloc, b"OUT")?).is_some();
-    Ok(
-        told.status == status
-            && told.err.bytes() == line.as_bytes()
-            && told.out.bytes().is_empty()
-            && !created,
-    )
+    Ok(is_told(&told, status, line) && !created)
+}
+
+/// Whether this status was given and this line printed as error text, and nothing else.
+fn is_told(told: &Told, status: u8, line: &str) -> bool {
+    told.status == status && told.err.bytes() == line.as_bytes() && told.out.bytes().is_empty()
+}
+
+/// Each of these lines of words gives 64 and its line.
+fn all_usage(rt: &impl Abort, alloc: Global, cases: &[(&str, &str)]) -> Result<(), Fail> {
+    for (words, line) in cases {
+        assert!(rt; refuses(alloc, b"", words, 64, line)?, "{words}");
+    }
+    Ok(())
+}
+
+/// Each of these bodies gives a status and its line.
+fn all_refused(
+    rt: &impl Abort,
+    alloc: Global,
+    status: u8,
+    cases: &[(&[u8], &str)],
+) -> Result<(), Fail> {
+    for (body, line) in cases {
+        assert!(rt;
+            refuses(alloc, body, "body F -o OUT", status, line)?,
+            "{line}"
+        );
+    }
+    Ok(())
+}
+
+/// The executable file of the six steps.
+fn six_steps(alloc: Global) -> Result<Bytes, Memory> {
+    let layout = ElfLayout {
+        text: Bytes::from_slice(alloc, &SIX_STEPS)?,
+        rest: Bytes::new(alloc),
+        zeros: 0,
+        entry: TEXT_AT,
+    };
+    write_elf(alloc, &layout)
 }
 
 /// The four bytes of the first program: its constant is the status, and nothing is printed.
@@ -92,84 +150,97 @@ fn low_bytes(rt: HostRuntime) -> Result<(), Fail> {
 
 #[test]
 fn refused_bodies(rt: HostRuntime) -> Result<(), Fail> {
-    let alloc = rt.alloc();
-    let words = "body F -o OUT";
-    assert!(rt; refuses(alloc, b"", words, 65, "ilc: 9 BadHeader F 0\n")?);
-    assert!(rt; refuses(alloc, b"\x0E\x1F\x2A", words, 65, "ilc: 9 BadHeader F 3\n")?);
-    assert!(rt;
-        refuses(
-            alloc,
-            b"\x0E\x1F\x2A\x2A\x00",
-            words,
-            65,
-            "ilc: 9 BadHeader F 4\n"
-        )?
-    );
-    let outside = "ilc: 24 OpcodeOutside [body]Body::Main()->System.Int32 ";
-    assert!(rt;
-        refuses(
-            alloc,
-            b"\x06\x2A",
-            words,
-            69,
-            format!(in alloc; "{outside}0\n")?.as_str()
-        )?
-    );
-    assert!(rt;
-        refuses(
-            alloc,
-            b"\x0A\x1F\x2A",
-            words,
-            69,
-            format!(in alloc; "{outside}2\n")?.as_str()
-        )?
-    );
-    assert!(rt;
-        refuses(
-            alloc,
-            b"\x0E\x17\x17\x2A",
-            words,
-            69,
-            format!(in alloc; "{outside}1\n")?.as_str()
-        )?
-    );
-    assert!(rt;
-        refuses(
-            alloc,
-            b"\x0E\x17\x2A\x2A",
-            words,
-            69,
-            format!(in alloc; "{outside}2\n")?.as_str()
-        )?
-    );
-    Ok(())
+    all_refused(
+        &rt,
+        rt.alloc(),
+        65,
+        &[
+            (b"", "ilc: 9 BadHeader F 0\n"),
+            (b"\x0E\x1F\x2A", "ilc: 9 BadHeader F 3\n"),
+            (b"\x0E\x1F\x2A\x2A\x00", "ilc: 9 BadHeader F 4\n"),
+        ],
+    )?;
+    all_refused(
+        &rt,
+        rt.alloc(),
+        69,
+        &[
+            (
+                b"\x06\x2A",
+                "ilc: 24 OpcodeOutside [body]Body::Main()->System.Int32 0\n",
+            ),
+            (
+                b"\x0A\x1F\x2A",
+                "ilc: 24 OpcodeOutside [body]Body::Main()->System.Int32 2\n",
+            ),
+            (
+                b"\x0E\x17\x17\x2A",
+                "ilc: 24 OpcodeOutside [body]Body::Main()->System.Int32 1\n",
+            ),
+            (
+                b"\x0E\x17\x2A\x2A",
+                "ilc: 24 OpcodeOutside [body]Body::Main()->System.Int32 2\n",
+            ),
+        ],
+    )
 }
 
 #[test]
 fn refused_words(rt: HostRuntime) -> Result<(), Fail> {
+    all_usage(
+        &rt,
+        rt.alloc(),
+        &[
+            ("", "ilc: usage 0\n"),
+            ("build F", "ilc: usage 0\n"),
+            ("body", "ilc: usage 1\n"),
+            ("body -o OUT", "ilc: usage 3\n"),
+            ("body F -o", "ilc: usage 3\n"),
+            ("body F G -o OUT", "ilc: usage 2\n"),
+            ("body F -x OUT", "ilc: usage 2\n"),
+            ("body -o OUT F -o OUT", "ilc: usage 4\n"),
+        ],
+    )?;
+    all_usage(
+        &rt,
+        rt.alloc(),
+        &[
+            ("run", "ilc: usage 1\n"),
+            ("run F G", "ilc: usage 2\n"),
+            ("run -v", "ilc: usage 1\n"),
+            ("run --count", "ilc: usage 2\n"),
+            ("run a --steps 07", "ilc: usage 3\n"),
+            ("run a --steps", "ilc: usage 3\n"),
+            ("run --steps +5 a", "ilc: usage 2\n"),
+            ("run --steps 9223372036854775808 a", "ilc: usage 2\n"),
+            ("run --steps 5 a --steps 6", "ilc: usage 4\n"),
+        ],
+    )
+}
+
+/// A file that isn't there, one that is no executable, and a call with no words.
+#[test]
+fn refused_files(rt: HostRuntime) -> Result<(), Fail> {
     let alloc = rt.alloc();
-    let body = b"\x0E\x1F\x2A\x2A";
-    for (words, line) in [
-        ("", "ilc: usage 0\n"),
-        ("build F", "ilc: usage 0\n"),
-        ("body", "ilc: usage 1\n"),
-        ("body -o OUT", "ilc: usage 3\n"),
-        ("body F -o", "ilc: usage 3\n"),
-        ("body F G -o OUT", "ilc: usage 2\n"),
-        ("body F -x OUT", "ilc: usage 2\n"),
-        ("body -o OUT F -o OUT", "ilc: usage 4\n"),
-        ("run", "ilc: usage 1\n"),
-        ("run F G", "ilc: usage 2\n"),
-        ("run -v", "ilc: usage 1\n"),
-    ] {
-        assert!(rt; refuses(alloc, body, words, 64, line)?, "{words}");
-    }
-    let mut files = with_body(alloc, body, &[])?;
-    let told = call_with(alloc, &mut files, &[])?;
-    assert_eq!(rt; told.status, 64);
-    assert!(rt; told.err.bytes() == b"ilc: usage 0\n".as_slice());
-    assert!(rt; refuses(alloc, body, "body G -o OUT", 66, "ilc: nofile G\n")?);
-    assert!(rt; refuses(alloc, body, "run F", 65, "ilc: 30 BadElf F 0\n")?);
+    assert!(rt; refuses(alloc, b"", "body G -o OUT", 66, "ilc: nofile G\n")?);
+    assert!(rt; refuses(alloc, b"", "run F --steps 0", 65, "ilc: 30 BadElf F 0\n")?);
+    let mut files = MemFiles::new(alloc, &[])?;
+    let told = call_with(alloc, &mut files, &[], &[])?;
+    assert!(rt; is_told(&told, 64, "ilc: usage 0\n"));
+    Ok(())
+}
+
+#[test]
+fn limited_and_counted(rt: HostRuntime) -> Result<(), Fail> {
+    let alloc = rt.alloc();
+    let elf = six_steps(alloc)?;
+    let mut files = with_body(alloc, elf.as_slice(), &[])?;
+    let told = call(alloc, &mut files, "run F --steps 5")?;
+    assert!(rt; is_told(&told, 124, "ilc: 21 Spent 5\n"));
+    let told = call(alloc, &mut files, "run --count --steps 6 F")?;
+    assert!(rt; is_told(&told, 7, "steps 6\n"));
+    let told = call_failing(alloc, &mut files, "run F --count", &[0])?;
+    assert!(rt; is_told(&told, 73, "ilc: write fault\n"));
     Ok(())
 }
 

@@ -14,8 +14,8 @@ use std::alloc::Global;
 /// process ends with.
 ///
 /// The words are those behind the program's name: `body FILE -o OUT` builds the bare body in FILE and writes an
-/// executable file to OUT, and `run ELF` runs an executable file on the machine. A refusal prints one line as
-/// error text.
+/// executable file to OUT, and `run ELF --steps N --count` runs an executable file on the machine for at most N
+/// steps, and prints as error text how many it did to its end. A refusal prints one line as error text.
 pub fn ilc<F: Files, I: Source, O: Sink, E: Sink>(
     alloc: Global,
     words: &[Text],

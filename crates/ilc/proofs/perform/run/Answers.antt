@@ -1,5 +1,56 @@
-use Rattle.std.proofs.Common.{ap, Err}
+use Rattle.std.proofs.Common.{ap, inr, Err, refl, rules}
+use Rattle.ilc.specs.Seen.{StreamsSeen, streams_seen}
+use Rattle.ilc.proofs.Counted.{not_counted, counted}
 use Rattle.ilc.proofs.perform.run.Goals as goal
+
+pub returns-in-Ok : goal.returns-in-Ok
+returns-in-Ok g c =
+    let ended : StreamsSeen = streams_seen (g.I.Source.rest c.run.new.input) (g.O.Sink.written c.run.new.out) (g.E.Sink.written c.run.new.err) (g.I.Source.faults c.run.new.input) (g.O.Sink.faults c.run.new.out) (g.E.Sink.faults c.run.new.err) in (
+      c.in-Ok.ran.steps,
+      ended,
+      record {
+        within = c.in-Ok.ensures.within;
+        ends = c.in-Ok.ensures.ends;
+        input_faults = c.in-Ok.ensures.input_faults;
+        output_faults = c.in-Ok.ensures.output_faults;
+        error_faults = c.in-Ok.ensures.error_faults;
+      },
+      not_counted c.args.count c.in-Ok.ran.steps ended (search rules),
+    )
+
+pub returns-in-Ok-report_count : goal.returns-in-Ok-report_count
+returns-in-Ok-report_count g c = (
+  c.in-Ok.ran.steps,
+  streams_seen (g.I.Source.rest c.run.new.input) (g.O.Sink.written c.run.new.out) (g.E.Sink.written c.run.new.err) (g.I.Source.faults c.run.new.input) (g.O.Sink.faults c.run.new.out) (g.E.Sink.faults c.run.new.err),
+  record {
+    within = c.in-Ok.ensures.within;
+    ends = c.in-Ok.ensures.ends;
+    input_faults = c.in-Ok.ensures.input_faults;
+    output_faults = c.in-Ok.ensures.output_faults;
+    error_faults = c.in-Ok.ensures.error_faults;
+  },
+  counted c.args.count c.in-Ok.ran.steps _ _ (search rules)
+      (record { rest = refl; output = refl; input_faults = refl; output_faults = refl }, c.in-Ok-report_count.ensures.printed),
+)
+
+pub returns-in-Err : goal.returns-in-Err
+returns-in-Err g c =
+    inr (
+      search rules,
+      (
+        c.in-Ok.ran.steps,
+        c.in-Ok.ran.status,
+        streams_seen (g.I.Source.rest c.run.new.input) (g.O.Sink.written c.run.new.out) (g.E.Sink.written c.run.new.err) (g.I.Source.faults c.run.new.input) (g.O.Sink.faults c.run.new.out) (g.E.Sink.faults c.run.new.err),
+        record {
+          within = c.in-Ok.ensures.within;
+          ends = c.in-Ok.ensures.ends;
+          input_faults = c.in-Ok.ensures.input_faults;
+          output_faults = c.in-Ok.ensures.output_faults;
+          error_faults = c.in-Ok.ensures.error_faults;
+        },
+        (record { rest = refl; output = refl; input_faults = refl; output_faults = refl }, c.in-Err.ensures.broken_off, c.in-Err.ensures.failed),
+      ),
+    )
 
 pub returns-in-Err-Spent : goal.returns-in-Err-Spent
 returns-in-Err-Spent g c =
