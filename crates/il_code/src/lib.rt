@@ -2,11 +2,13 @@
 #![tactic(auto)]
 
 mod body;
+mod listing;
 mod opcode;
 mod operation;
 mod read;
 
 pub use body::{Body, Clause, ClauseKind, Instr, Operand};
+pub use listing::{CodeFault, instructions};
 pub use opcode::{OPCODES, Op, OperandForm};
 pub use operation::{BinaryOperation, Operation};
 pub use read::{BodyFault, instruction_at, tiny_code};
