@@ -1,5 +1,4 @@
-use Rattle.std.proofs.Common.{◌≡◌, ◌+◌, ◌-◌, ◌<◌, ◌≤◌, ◌==◌, false, length, take, arith, length-take}
-use Rattle.rv_step.specs.Steps.{FilledBytes}
+use Rattle.std.proofs.Common.{◌≡◌, ◌-◌, ◌<◌, ◌≤◌, false, length, take, arith, length-take}
 use Rattle.rv_step.proofs.Exchanges.{filled_start, filled_step}
 use Rattle.rv_step.proofs.fill.fill_bytes.Goals as goal
 
