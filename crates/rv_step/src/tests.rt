@@ -25,60 +25,105 @@ fn machine(alloc: Global, bytes: &[u8]) -> Result<Machine, Fail>
     Ok(Machine::new(alloc, segments, 0x1_0000)?)
 }
 
-#[test]
-fn ends_with_42(rt: HostRuntime) -> Result<(), Fail> {
-    let alloc = rt.alloc();
+/// A run without input: how it comes out, and the machine behind it.
+fn ran(alloc: Global, bytes: &[u8], steps: u64) -> Result<(Result<Ran, RunFault>, Machine), Fail>
+    requires { length bytes.now < 2 ^ 32 }
+{
     let mut input = MemSource::new(alloc, &[], &[])?;
     let mut out = MemSink::new(alloc, &[])?;
     let mut err = MemSink::new(alloc, &[])?;
-    // addi x10, x0, 298; addi x17, x0, 93; ecall
-    let words = [
-        0x13, 0x05, 0xa0, 0x12, 0x93, 0x08, 0xd0, 0x05, 0x73, 0x00, 0x00, 0x00,
-    ];
-    let ran = machine(alloc, &words)?.run(&mut input, &mut out, &mut err, 3);
+    let mut m = machine(alloc, bytes)?;
+    let ran = m.run(&mut input, &mut out, &mut err, steps);
+    Ok((ran, m))
+}
+
+static EXIT: [u8; 12] = [
+    0x13, 0x05, 0xa0, 0x12, // addi x10, x0, 298
+    0x93, 0x08, 0xd0, 0x05, // addi x17, x0, 93
+    0x73, 0x00, 0x00, 0x00, // ecall
+];
+
+#[test]
+fn ends_with_42(rt: HostRuntime) -> Result<(), Fail> {
+    let (whole, _) = ran(rt.alloc(), &EXIT, 3)?;
     assert_eq!(rt;
-        ran,
+        whole,
         Ok(Ran {
             status: 42,
             steps: 3
         })
     );
-    let mut short = machine(alloc, &words)?;
-    let spent = short.run(&mut input, &mut out, &mut err, 2);
-    assert_eq!(rt; spent, Err(RunFault::Spent(2)));
-    assert_eq!(rt; short.step(&mut input, &mut out, &mut err), Ok(Some(42)));
-    let trap = machine(alloc, &words[4..])?.run(&mut input, &mut out, &mut err, 3);
-    assert_eq!(rt;
-        trap,
-        Ok(Ran {
-            status: 0,
-            steps: 2
-        })
-    );
+    let (short, _) = ran(rt.alloc(), &EXIT, 2)?;
+    assert_eq!(rt; short, Err(RunFault::Spent(2)));
+    Ok(())
+}
+
+#[test]
+fn steps(rt: HostRuntime) -> Result<(), Fail> {
+    let mut input = MemSource::new(rt.alloc(), &[], &[])?;
+    let mut out = MemSink::new(rt.alloc(), &[])?;
+    let mut err = MemSink::new(rt.alloc(), &[])?;
+    let mut m = machine(rt.alloc(), &EXIT[4..])?;
+    assert_eq!(rt; m.step(&mut input, &mut out, &mut err), Ok(None));
+    assert_eq!(rt; m.step(&mut input, &mut out, &mut err), Ok(Some(0)));
+    Ok(())
+}
+
+/// A word, and the trap that it makes behind `addi x10, x0, 1`.
+static TRAPS: [([u8; 4], Trap); 5] = [
+    // no instruction
+    (
+        [0x00, 0x00, 0x00, 0x00],
+        Trap {
+            pc: 0x1_0004,
+            cause: Cause::Illegal,
+        },
+    ),
+    // ecall
+    (
+        [0x73, 0x00, 0x00, 0x00],
+        Trap {
+            pc: 0x1_0004,
+            cause: Cause::Call,
+        },
+    ),
+    // ld x10, 0(x0)
+    (
+        [0x03, 0x35, 0x00, 0x00],
+        Trap {
+            pc: 0x1_0004,
+            cause: Cause::Load,
+        },
+    ),
+    // sd x10, 0(x0)
+    (
+        [0x23, 0x30, 0xa0, 0x00],
+        Trap {
+            pc: 0x1_0004,
+            cause: Cause::Store,
+        },
+    ),
+    // jalr x0, 0(x0)
+    (
+        [0x67, 0x00, 0x00, 0x00],
+        Trap {
+            pc: 0,
+            cause: Cause::Fetch,
+        },
+    ),
+];
+
+fn trap_so(rt: &impl Abort, alloc: Global, rows: &[([u8; 4], Trap)]) -> Result<(), Fail> {
+    for ([a, b, c, d], trap) in rows {
+        let (got, _) = ran(alloc, &[0x13, 0x05, 0x10, 0x00, *a, *b, *c, *d], 9)?;
+        assert_eq!(rt; got, Err(RunFault::Trap(*trap)));
+    }
     Ok(())
 }
 
 #[test]
 fn traps_at_its_pc(rt: HostRuntime) -> Result<(), Fail> {
-    let alloc = rt.alloc();
-    let mut input = MemSource::new(alloc, &[], &[])?;
-    let mut out = MemSink::new(alloc, &[])?;
-    let mut err = MemSink::new(alloc, &[])?;
-    // addi x10, x0, 1; then no instruction; ecall of no call; ld x10, 0(x0); sd x10, 0(x0)
-    let rows = [
-        ([0x00, 0x00, 0x00, 0x00], Cause::Illegal),
-        ([0x73, 0x00, 0x00, 0x00], Cause::Call),
-        ([0x03, 0x35, 0x00, 0x00], Cause::Load),
-        ([0x23, 0x30, 0xa0, 0x00], Cause::Store),
-        ([0x67, 0x00, 0x00, 0x00], Cause::Fetch),
-    ];
-    for (word, cause) in rows {
-        let pc = if cause == Cause::Fetch { 0 } else { 0x1_0004 };
-        let words = [0x13, 0x05, 0x10, 0x00, word[0], word[1], word[2], word[3]];
-        let trap = machine(alloc, &words)?.run(&mut input, &mut out, &mut err, 9);
-        assert_eq!(rt; trap, Err(RunFault::Trap(Trap { pc, cause })));
-    }
-    Ok(())
+    trap_so(&rt, rt.alloc(), &TRAPS)
 }
 
 /// Instructions that make of x10 and x11 the number in x12.
@@ -180,13 +225,9 @@ fn program(word: u32, x: u64, y: u64) -> [u8; 32] {
     bytes
 }
 
-fn holds(rt: &impl Abort, alloc: Global, rows: &[Row]) -> Result<(), Fail> {
-    let mut input = MemSource::new(alloc, &[], &[])?;
-    let mut out = MemSink::new(alloc, &[])?;
-    let mut err = MemSink::new(alloc, &[])?;
+fn give_so(rt: &impl Abort, alloc: Global, rows: &[Row]) -> Result<(), Fail> {
     for (word, x, y, wanted) in rows {
-        let mut m = machine(alloc, &program(*word, *x, *y))?;
-        let spent = m.run(&mut input, &mut out, &mut err, 4);
+        let (spent, m) = ran(alloc, &program(*word, *x, *y), 4)?;
         assert_eq!(rt; spent, Err(RunFault::Spent(4)));
         assert_eq!(rt;
             m.get(Register::of(12)),
@@ -200,8 +241,8 @@ fn holds(rt: &impl Abort, alloc: Global, rows: &[Row]) -> Result<(), Fail> {
 /// Division by zero and overflow are as in the table of the manual's chapter "M".
 #[test]
 fn extremes(rt: HostRuntime) -> Result<(), Fail> {
-    holds(&rt, rt.alloc(), &DIVISIONS)?;
-    holds(&rt, rt.alloc(), &OTHERS)
+    give_so(&rt, rt.alloc(), &DIVISIONS)?;
+    give_so(&rt, rt.alloc(), &OTHERS)
 }
 
 /// Reads into the 8 bytes behind it, writes what was read, and ends with its length.
