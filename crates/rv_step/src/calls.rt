@@ -139,12 +139,12 @@ impl Machine {
         ensures failed { result ≡ Err StepFault.ReadFault → (register self.old 12 ≢ 0) × HasRisen (I.faults input.old) (I.faults input.new) }
         ensures faults_kept { I.faults input.old ≤ I.faults input.new }
     {
-        let count = self.get(Register::of(A2));
-        if count == 0 {
+        let wanted = self.get(Register::of(A2));
+        if wanted == 0 {
             self.answer(0);
             return Ok(None);
         }
-        match self.fill(self.get(Register::of(A1)), count, input, at_end) {
+        match self.fill(self.get(Register::of(A1)), wanted, input, at_end) {
             Ok(Some(got)) => {
                 self.answer(got);
                 Ok(None)

@@ -288,7 +288,7 @@ fn copies_its_input(rt: HostRuntime) -> Result<(), Fail> {
         })
     );
     assert_eq!(rt; out.bytes(), b"abc".as_slice());
-    let (ran, out) = copied(rt.alloc(), b"0123456789", &[], &[])?;
+    let (ran, out) = copied(rt.alloc(), b"9876543210", &[], &[])?;
     assert_eq!(rt;
         ran,
         Ok(Ran {
@@ -296,12 +296,12 @@ fn copies_its_input(rt: HostRuntime) -> Result<(), Fail> {
             steps: 13
         })
     );
-    assert_eq!(rt; out.bytes(), b"01234567".as_slice());
+    assert_eq!(rt; out.bytes(), b"98765432".as_slice());
     Ok(())
 }
 
 #[test]
-fn refused_calls(rt: HostRuntime) -> Result<(), Fail> {
+fn tells_refused_calls(rt: HostRuntime) -> Result<(), Fail> {
     let (ran, _) = copied(rt.alloc(), b"abc", &[1], &[])?;
     assert_eq!(rt; ran, Err(RunFault::ReadFault));
     let (ran, _) = copied(rt.alloc(), b"abc", &[], &[0])?;
