@@ -69,54 +69,27 @@ fn steps(rt: HostRuntime) -> Result<(), Fail> {
     Ok(())
 }
 
-/// A word, and the trap that it makes behind `addi x10, x0, 1`.
-static TRAPS: [([u8; 4], Trap); 5] = [
-    // no instruction
-    (
-        [0x00, 0x00, 0x00, 0x00],
-        Trap {
-            pc: 0x1_0004,
-            cause: Cause::Illegal,
-        },
-    ),
+/// A word behind `addi x10, x0, 1`, and the trap that it makes.
+static TRAPS: [([u8; 4], u64, Cause); 5] = [
+    ([0x00, 0x00, 0x00, 0x00], 0x1_0004, Cause::Illegal),
     // ecall
-    (
-        [0x73, 0x00, 0x00, 0x00],
-        Trap {
-            pc: 0x1_0004,
-            cause: Cause::Call,
-        },
-    ),
+    ([0x73, 0x00, 0x00, 0x00], 0x1_0004, Cause::Call),
     // ld x10, 0(x0)
-    (
-        [0x03, 0x35, 0x00, 0x00],
-        Trap {
-            pc: 0x1_0004,
-            cause: Cause::Load,
-        },
-    ),
+    ([0x03, 0x35, 0x00, 0x00], 0x1_0004, Cause::Load),
     // sd x10, 0(x0)
-    (
-        [0x23, 0x30, 0xa0, 0x00],
-        Trap {
-            pc: 0x1_0004,
-            cause: Cause::Store,
-        },
-    ),
+    ([0x23, 0x30, 0xa0, 0x00], 0x1_0004, Cause::Store),
     // jalr x0, 0(x0)
-    (
-        [0x67, 0x00, 0x00, 0x00],
-        Trap {
-            pc: 0,
-            cause: Cause::Fetch,
-        },
-    ),
+    ([0x67, 0x00, 0x00, 0x00], 0, Cause::Fetch),
 ];
 
-fn trap_so(rt: &impl Abort, alloc: Global, rows: &[([u8; 4], Trap)]) -> Result<(), Fail> {
-    for ([a, b, c, d], trap) in rows {
+fn trap_so(rt: &impl Abort, alloc: Global, rows: &[([u8; 4], u64, Cause)]) -> Result<(), Fail> {
+    for ([a, b, c, d], pc, cause) in rows {
         let (got, _) = ran(alloc, &[0x13, 0x05, 0x10, 0x00, *a, *b, *c, *d], 9)?;
-        assert_eq!(rt; got, Err(RunFault::Trap(*trap)));
+        let trap = Trap {
+            pc: *pc,
+            cause: *cause,
+        };
+        assert_eq!(rt; got, Err(RunFault::Trap(trap)));
     }
     Ok(())
 }
@@ -177,11 +150,12 @@ const EXTENDED: u64 = 0xffff_ffff_8000_0000;
 /// An instruction, two numbers, and what it makes of them.
 type Row = (u32, u64, u64, u64);
 
-static DIVISIONS: [Row; 16] = [
+static DIVISIONS: [Row; 17] = [
     (DIV, 7, 0, ONES),
     (DIVU, ONES, 0, ONES),
     (REM, 7, 0, 7),
     (REMU, 7, 0, 7),
+    (DIVUW, 7, 0, ONES),
     (DIV, LEAST, ONES, LEAST),
     (REM, LEAST, ONES, 0),
     (DIV, 0xffff_ffff_ffff_fff9, 2, 0xffff_ffff_ffff_fffd),
