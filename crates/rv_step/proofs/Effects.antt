@@ -1,13 +1,13 @@
 -- What single instructions do.
-use Rattle.std.proofs.Common.{◌≡◌, ◌∙◌, ℕ, List, Option, Some, None, Result, Ok, Err, refl, sym, ap, subst, slice_index, arith}
+use Rattle.std.proofs.Common.{◌≡◌, ◌∙◌, ℕ, List, Some, None, Result, Ok, Err, sym, ap, subst, slice_index, arith}
 use Rattle.std.specs.Option.{option_map}
 use Rattle.byteorder.specs.Endian.{little_number, little_bytes}
-use Rattle.num_core.specs.Run.{Running, Streams}
+use Rattle.num_core.specs.Run.{Running}
 use Rattle.rv_isa.specs.declared.ins.Ins.{Ins}
 use Rattle.rv_step.specs.Machine.{MachineState, effect, gives, gives_loaded, loads, stores, goes_on_with, bytes_at, with_bytes_at, next_pc}
 use Rattle.rv_step.specs.Steps.{Does}
 use Rattle.rv_step.specs.declared.trap.Cause.{Cause}
-use Rattle.rv_step.specs.declared.trap.Cause.TheVariants.{Store, Load}
+use Rattle.rv_step.specs.declared.trap.Cause.TheVariants.{Store}
 
 -- the instruction under another name
 pub same_instruction : (ins ins' : Ins) (m new : MachineState) (result : Result Unit Cause) → ins ≡ ins' → Does (effect ins' m) result m new → Does (effect ins m) result m new

@@ -7,13 +7,12 @@ use Rattle.std.proofs.lemmas.Grind.{common_steps}
 use Rattle.std.specs.Option.{option_map}
 use Rattle.ilc_io.specs.Piece.{Reads}
 use Rattle.std.specs.List.{position}
-use Rattle.rv_step.specs.Machine.{overwritten, filled, covers, bytes_at, with_bytes_at}
-use Rattle.rv_step.specs.Segments.{grants, serves, part, patched}
+use Rattle.rv_step.specs.Machine.{overwritten, filled}
+use Rattle.rv_step.specs.Segments.{serves, part}
 use Rattle.rv_step.specs.declared.segment.Segment.{Segment}
 use Rattle.rv_step.specs.declared.segment.Access.TheVariants.{Write}
 use Rattle.rv_step.proofs.Memory.{bytes_at_some, with_bytes_at_some, covered, served}
-use Rattle.rv_step.specs.Outcomes.{Continues}
-use Rattle.rv_step.specs.Steps.{Wrote, WroteSome, Takes, FilledBytes, FilledSegments}
+use Rattle.rv_step.specs.Steps.{Wrote, WroteSome, FilledBytes, FilledSegments}
 use Rattle.rv_step.proofs.Steps.{nothing_written, written_then, nothing_taken, taken_then}
 
 -- ---- writing

@@ -1,21 +1,22 @@
 -- From what a step does in the midst of a run to what a run has done.
-use Rattle.std.proofs.Common.{◌≡◌, ◌∙◌, ℕ, zero, suc, ◌+◌, ◌-◌, ◌<◌, ◌≤◌, Bool, true, false, List, [], ◌∷◌, ◌++◌, length, drop, Option, Some, None, Result, Ok, Err, IfSome, unwrap_or, refl, sym, ap, subst, append_assoc, append-nil, add-one, arith}
-use Rattle.std.proofs.Math.Seq.{drop-append_seam}
+use Rattle.std.proofs.Common.{◌≡◌, ◌∙◌, ℕ, ◌+◌, ◌-◌, ◌<◌, Bool, true, false, List, [], ◌++◌, length, take, drop, Option, Some, None, Result, Ok, Err, IfSome, ◌⊎◌, inl, inr, unwrap_or, refl, sym, ap, subst, append_assoc, append-nil, add-one, arith}
+use Rattle.std.proofs.Math.Seq.{take-append_seam, drop-append_seam}
 use Rattle.std.specs.Option.{option_map}
 use Rattle.num_core.specs.Run.{Run, Running, Ended, Stopped, Streams, Outside, Passes, after, one_more}
 use Rattle.num_core.proofs.Runs.{after-add, after-ended, after-stopped}
 use Rattle.rv_isa.specs.declared.ins.Ins.{Ins}
+use Rattle.rv_isa.specs.declared.ins.Ins.TheVariants.{Ecall}
 use Rattle.rv_isa.specs.Parts.{parts_of}
 use Rattle.rv_isa.specs.Rows.{instruction}
-use Rattle.rv_step.specs.Machine.{MachineState, machine_step, machine_run, fetched, effect, on_word, on_instruction, traps}
-use Rattle.rv_step.specs.Outcomes.{IsRunning, GoesOn, EndsAfter, TrapsWithin, ReadFailsWithin, WriteFailsWithin, Continues}
-use Rattle.rv_step.specs.Steps.{Exchange, Exchanges, nothing, EndIsTrue, Leads, streams_before, streams_after, StepsOn, StepEnds, StepTraps, ReadBreaksOff, WriteBreaksOff, StepAnswers, run_fault}
+use Rattle.rv_step.specs.Machine.{MachineState, machine_step, machine_run, fetched, effect, on_word, on_instruction, environment_call, traps}
+use Rattle.rv_step.specs.Outcomes.{IsRunning, Requests, Asks, GoesOn, EndsAfter, TrapsWithin, ReadFailsWithin, WriteFailsWithin, Continues}
+use Rattle.rv_step.specs.Steps.{Exchange, Exchanges, nothing, EndIsTrue, streams_before, streams_after, StepsOn, StepEnds, StepTraps, ReadBreaksOff, WriteBreaksOff, StepAnswers, run_fault}
+use Rattle.rv_step.specs.declared.calls.Request.{Request}
+use Rattle.rv_step.specs.declared.calls.Request.TheVariants.{ReadInput, WriteOutput, WriteError}
 use Rattle.rv_step.specs.declared.trap.Trap.{Trap}
-use Rattle.rv_step.specs.declared.trap.Cause.{Cause}
 use Rattle.rv_step.specs.declared.trap.Cause.TheVariants.{Fetch, Illegal}
 use Rattle.rv_step.specs.declared.fault.StepFault.{StepFault}
 use Rattle.rv_step.specs.declared.fault.StepFault.TheVariants.{Trap as Trapped, ReadFault, WriteFault}
-use Rattle.rv_step.specs.declared.fault.RunFault.{RunFault}
 use Rattle.rv_step.specs.declared.fault.RunFault.TheVariants.{Trap as RunTrapped, ReadFault as RunReadFault, WriteFault as RunWriteFault}
 
 -- ---- one step
@@ -23,11 +24,23 @@ use Rattle.rv_step.specs.declared.fault.RunFault.TheVariants.{Trap as RunTrapped
 pub step_of_instruction : (m : MachineState) (word : ℕ) (ins : Ins) → fetched m ≡ Some word → instruction (parts_of word) ≡ Some ins → (s : Streams) → machine_step m s ≡ effect ins m s
 step_of_instruction m word ins fetch decode s = ap (λ w. on_word w m s) fetch ∙ ap (λ i. on_instruction i m s) decode
 
+pub step_of_call : (m : MachineState) (word : ℕ) (ins : Ins) → fetched m ≡ Some word → instruction (parts_of word) ≡ Some ins → ins ≡ Ecall → (s : Streams) → machine_step m s ≡ environment_call m s
+step_of_call m word ins fetch decode call s = step_of_instruction m word Ecall fetch (decode ∙ ap Some call) s
+
 pub step_of_no_word : (m : MachineState) → fetched m ≡ None → (s : Streams) → machine_step m s ≡ traps m Fetch s
 step_of_no_word m fetch s = ap (λ w. on_word w m s) fetch
 
 pub step_of_illegal : (m : MachineState) (word : ℕ) → fetched m ≡ Some word → instruction (parts_of word) ≡ None → (s : Streams) → machine_step m s ≡ traps m Illegal s
 step_of_illegal m word fetch decode s = ap (λ w. on_word w m s) fetch ∙ ap (λ i. on_instruction i m s) decode
+
+-- the instruction at the pc is a call of the environment
+pub asks_by : (m : MachineState) (asked : Request) (word : ℕ) (ins : Ins) → fetched m ≡ Some word → instruction (parts_of word) ≡ Some ins → ins ≡ Ecall → Requests m asked → Asks m asked
+asks_by m asked word ins fetch decode call requests =
+    record { word = word; fetches = fetch; calls = decode ∙ ap Some call; requests = requests }
+
+pub called_one : (m : MachineState) (word : ℕ) (ins : Ins) (A B : Type 0) → fetched m ≡ Some word → instruction (parts_of word) ≡ Some ins → ins ≡ Ecall → (Requests m WriteOutput × A) ⊎ (Requests m WriteError × B) → (Asks m WriteOutput × A) ⊎ (Asks m WriteError × B)
+called_one m word ins A B fetch decode call (inl h) = inl (asks_by m WriteOutput word ins fetch decode call h.0, h.1)
+called_one m word ins A B fetch decode call (inr h) = inr (asks_by m WriteError word ins fetch decode call h.0, h.1)
 
 -- ---- exchanges
 
@@ -122,7 +135,15 @@ answers_same step step' (Ok (Some status)) ended at_end old new before now same 
     record { ends = λ s. same s ∙ a.ends s; same = a.same }
 answers_same step step' (Err (Trapped trap)) ended at_end old new before now same a =
     record { stops = λ s. same s ∙ a.stops s; same_machine = a.same_machine; same = a.same }
-answers_same step step' (Err ReadFault) ended at_end old new before now same a = a
+answers_same step step' (Err ReadFault) ended at_end old new before now same a =
+    record {
+      taken = a.taken;
+      next = a.next;
+      leads = λ s. same (record s { input = a.taken }) ∙ a.leads s;
+      same = a.same;
+      not_ended = a.not_ended;
+      exchanged = a.exchanged;
+    }
 answers_same step step' (Err WriteFault) ended at_end old new before now same a =
     record {
       same_machine = a.same_machine;
@@ -220,14 +241,16 @@ traps_within old mid done steps trap ended before now lt p stops =
       passes = passes_by p.x before now p.exchanged;
     }
 
-pub read_fails : (old mid new : MachineState) (done steps : ℕ) (ended : Bool) (before between now : Outside) → done < steps → Progress old done mid ended before between → ReadBreaksOff ended mid new between now → ReadFailsWithin old steps new before now
-read_fails old mid new done steps ended before between now lt p broken =
+pub read_fails : (old mid new : MachineState) (done steps : ℕ) (ended : Bool) (before between now : Outside) → done < steps → Asks mid ReadInput → Progress old done mid ended before between → ReadBreaksOff (machine_step mid) ended mid new between now → ReadFailsWithin old steps new before now
+read_fails old mid new done steps ended before between now lt asks p broken =
     let x : Exchange = p.x in
     let y : Exchange = record nothing { taken = broken.taken } in
     let input : List ℕ = broken.taken ++ left now in
     let whole : Passes ((x.taken ++ broken.taken) ++ left now) (record { input = left now; output = x.output ++ []; error = x.error ++ [] }) before now =
     passes_by (then x y) before now (exchanges_then x y before between now p.exchanged broken.exchanged) in
     let same_given : (x.taken ++ broken.taken) ++ left now ≡ x.taken ++ input = append_assoc x.taken broken.taken (left now) in
+    let streams : Streams = record { input = input; output = x.output; error = x.error } in
+    let front : take (length broken.taken) input ≡ broken.taken = take-append_seam broken.taken (left now) in
     let rest : drop (length broken.taken) input ≡ left now = drop-append_seam broken.taken (left now) in
     let end : Streams = record { input = drop (length broken.taken) input; output = x.output; error = x.error } in
     let end_before : Streams = record { input = left now; output = x.output ++ []; error = x.error ++ [] } in
@@ -235,13 +258,16 @@ read_fails old mid new done steps ended before between now lt p broken =
     let given_whole : Passes (x.taken ++ input) end_before before now = subst (λ given. Passes given end_before before now) same_given whole in
     record {
       given = x.taken ++ input;
-      streams = record { input = input; output = x.output; error = x.error };
+      streams = streams;
       done = done;
       within = lt;
       machine = mid;
       running = p.running input (λ e. absurd (broken.not_ended e));
-      same = broken.same;
+      asks = asks;
       took = length broken.taken;
+      next = broken.next;
+      goes_on = ap (λ xs. machine_step mid (record streams { input = xs })) front ∙ broken.leads streams;
+      same = broken.same;
       passes = subst (λ s. Passes (x.taken ++ input) s before now) same_streams given_whole;
     }
 
@@ -252,8 +278,8 @@ same_left between (Some rest) same h = let P : Option (List ℕ) → Type 0 = λ
 continues_after : (front bytes longer : List ℕ) → Continues bytes longer → Continues (front ++ bytes) (front ++ longer)
 continues_after front bytes longer c = (c.0, ap (λ more. front ++ more) c.1 ∙ sym (append_assoc front bytes c.0))
 
-pub write_fails : (old mid new : MachineState) (done steps : ℕ) (ended : Bool) (before between now : Outside) → done < steps → Progress old done mid ended before between → WriteBreaksOff (machine_step mid) mid new between now → WriteFailsWithin old steps new before now
-write_fails old mid new done steps ended before between now lt p broken =
+pub write_fails : (old mid new : MachineState) (done steps : ℕ) (ended : Bool) (before between now : Outside) → done < steps → Asks mid WriteOutput ⊎ Asks mid WriteError → Progress old done mid ended before between → WriteBreaksOff (machine_step mid) mid new between now → WriteFailsWithin old steps new before now
+write_fails old mid new done steps ended before between now lt asks p broken =
     let x : Exchange = p.x in
     let y : Exchange = record { taken = []; output = broken.got_output; error = broken.got_error } in
     let got : Streams = record { input = left now; output = x.output ++ broken.got_output; error = x.error ++ broken.got_error } in
@@ -267,6 +293,7 @@ write_fails old mid new done steps ended before between now lt p broken =
       done = done;
       within = lt;
       running = there ∙ ap (λ m. Running m (reached x now)) (sym broken.same_machine);
+      asks = (let P : MachineState → Type 0 = λ m. Asks m WriteOutput ⊎ Asks m WriteError in subst P (sym broken.same_machine) asks);
       next = broken.next;
       whole = record { input = left now; output = x.output ++ broken.output; error = x.error ++ broken.error };
       goes_on = more_run old mid _ done _ _ there (broken.leads (reached x now));
@@ -297,15 +324,36 @@ fault_traps (Trapped trap') old mid new done steps trap ended at_end before betw
 fault_traps ReadFault old mid new done steps trap ended at_end before between now e lt p a = cc
 fault_traps WriteFault old mid new done steps trap ended at_end before between now e lt p a = cc
 
-pub fault_reads : (fault : StepFault) (old mid new : MachineState) (done steps : ℕ) (ended at_end : Bool) (before between now : Outside) → run_fault fault ≡ RunReadFault → done < steps → Progress old done mid ended before between → StepAnswers (machine_step mid) (Err fault) ended at_end mid new between now → ReadFailsWithin old steps new before now
-fault_reads (Trapped trap') old mid new done steps ended at_end before between now e lt p a = cc
-fault_reads ReadFault old mid new done steps ended at_end before between now e lt p a = read_fails old mid new done steps ended before between now lt p a
-fault_reads WriteFault old mid new done steps ended at_end before between now e lt p a = cc
+pub fault_reads : (fault : StepFault) (old mid new : MachineState) (done steps : ℕ) (ended at_end : Bool) (before between now : Outside) → run_fault fault ≡ RunReadFault → done < steps → (fault ≡ ReadFault → Asks mid ReadInput) → Progress old done mid ended before between → StepAnswers (machine_step mid) (Err fault) ended at_end mid new between now → ReadFailsWithin old steps new before now
+fault_reads (Trapped trap') old mid new done steps ended at_end before between now e lt asks p a = cc
+fault_reads ReadFault old mid new done steps ended at_end before between now e lt asks p a = read_fails old mid new done steps ended before between now lt (asks refl) p a
+fault_reads WriteFault old mid new done steps ended at_end before between now e lt asks p a = cc
 
-pub fault_writes : (fault : StepFault) (old mid new : MachineState) (done steps : ℕ) (ended at_end : Bool) (before between now : Outside) → run_fault fault ≡ RunWriteFault → done < steps → Progress old done mid ended before between → StepAnswers (machine_step mid) (Err fault) ended at_end mid new between now → WriteFailsWithin old steps new before now
-fault_writes (Trapped trap') old mid new done steps ended at_end before between now e lt p a = cc
-fault_writes ReadFault old mid new done steps ended at_end before between now e lt p a = cc
-fault_writes WriteFault old mid new done steps ended at_end before between now e lt p a = write_fails old mid new done steps ended before between now lt p a
+pub fault_writes : (fault : StepFault) (old mid new : MachineState) (done steps : ℕ) (ended at_end : Bool) (before between now : Outside) → run_fault fault ≡ RunWriteFault → done < steps → (fault ≡ WriteFault → Asks mid WriteOutput ⊎ Asks mid WriteError) → Progress old done mid ended before between → StepAnswers (machine_step mid) (Err fault) ended at_end mid new between now → WriteFailsWithin old steps new before now
+fault_writes (Trapped trap') old mid new done steps ended at_end before between now e lt asks p a = cc
+fault_writes ReadFault old mid new done steps ended at_end before between now e lt asks p a = cc
+fault_writes WriteFault old mid new done steps ended at_end before between now e lt asks p a = write_fails old mid new done steps ended before between now lt (asks refl) p a
+
+-- a write that a sink refused leaves the machine
+pub write_keeps : (fault : StepFault) (step : Streams → Run MachineState Trap) (ended at_end : Bool) (old new : MachineState) (before now : Outside) → fault ≡ WriteFault → StepAnswers step (Err fault) ended at_end old new before now → new ≡ old
+write_keeps (Trapped trap) step ended at_end old new before now e a = cc
+write_keeps ReadFault step ended at_end old new before now e a = cc
+write_keeps WriteFault step ended at_end old new before now e a = a.same_machine
+
+pub run_write_fault : (fault : StepFault) → run_fault fault ≡ RunWriteFault → fault ≡ WriteFault
+run_write_fault (Trapped trap) e = cc
+run_write_fault ReadFault e = cc
+run_write_fault WriteFault e = refl
+
+-- the same machine, and counts that had risen before
+pub asked_first : (mid new : MachineState) (A B A' B' : Type 0) → new ≡ mid → (A → A') → (B → B') → (Asks mid WriteOutput × A) ⊎ (Asks mid WriteError × B) → (Asks new WriteOutput × A') ⊎ (Asks new WriteError × B')
+asked_first mid new A B A' B' same f g (inl h) = let P : MachineState → Type 0 = λ m. Asks m WriteOutput in inl (subst P (sym same) h.0, f h.1)
+asked_first mid new A B A' B' same f g (inr h) = let P : MachineState → Type 0 = λ m. Asks m WriteError in inr (subst P (sym same) h.0, g h.1)
+
+-- which of the sinks
+pub asked_which : (m : MachineState) (A B : Type 0) → (Asks m WriteOutput × A) ⊎ (Asks m WriteError × B) → Asks m WriteOutput ⊎ Asks m WriteError
+asked_which m A B (inl h) = inl h.0
+asked_which m A B (inr h) = inr h.0
 
 pub progress_spent : (old new : MachineState) (done steps : ℕ) (at_end : Bool) (before now : Outside) → done ≡ steps → Progress old done new at_end before now → GoesOn old steps new before now
 progress_spent old new done steps at_end before now all p = subst (λ n. GoesOn old n new before now) all (goes_on old new done at_end before now p)

@@ -1,7 +1,12 @@
 -- How runs of a machine come out: what its steps did, and what the outside has of it.
-use Rattle.std.specs.Prelude.{◌≡◌, ℕ, ◌+◌, ◌<◌, List, ◌++◌, length, drop, Option, Some}
+use Rattle.std.specs.Prelude.{◌≡◌, ◌≢◌, ◌⊎◌, ℕ, ◌+◌, ◌<◌, List, [], ◌++◌, take, drop, Option, Some}
 use Rattle.num_core.specs.Run.{Run, Running, Ended, Stopped, Streams, Outside, Passes}
-use Rattle.rv_step.specs.Machine.{MachineState, machine_run, register, with_bytes_at}
+use Rattle.rv_isa.specs.declared.ins.Ins.TheVariants.{Ecall}
+use Rattle.rv_isa.specs.Parts.{parts_of}
+use Rattle.rv_isa.specs.Rows.{instruction}
+use Rattle.rv_step.specs.Machine.{MachineState, machine_step, machine_run, fetched, register, request}
+use Rattle.rv_step.specs.declared.calls.Request.{Request}
+use Rattle.rv_step.specs.declared.calls.Request.TheVariants.{ReadInput, WriteOutput, WriteError}
 use Rattle.rv_step.specs.declared.trap.Trap.{Trap}
 
 -- what a source has left, and what the sinks for output and error text hold, where they tell it
@@ -38,16 +43,20 @@ pub record TrapsWithin (old : MachineState) (steps : ℕ) (trap : Trap) (new : M
   pub stopped : machine_run old given (done + 1) ≡ Stopped trap streams
   pub passes : Passes given streams before now
 
--- the same but for the a2 (x12) bytes from a1 (x11) on
-pub record SameButBuffer (old new : MachineState) : Type 0 where
-  pub pc : new.pc ≡ old.pc
-  pub registers : new.registers ≡ old.registers
-  pub bytes : List ℕ
-  pub all : length bytes ≡ register old 12
-  pub segments : with_bytes_at (λ s. s.write) (register old 11) bytes old.segments ≡ Some new.segments
+-- a call of the environment asks for this now, for more than no bytes
+abbrev pub Requests : MachineState → Request → Type 0
+Requests m asked = (request (register m 17) (register m 10) ≡ asked) × (register m 12 ≢ 0)
 
--- One of the steps called the source, which refused. All that the steps before it wrote has been written, and
--- of the input that they left, that step took the first bytes at most.
+-- the instruction at the pc is a call of the environment that asks for this
+pub record Asks (m : MachineState) (asked : Request) : Type 0 where
+  pub word : ℕ
+  pub fetches : fetched m ≡ Some word
+  pub calls : instruction (parts_of word) ≡ Some Ecall
+  pub requests : Requests m asked
+
+-- One of the steps asked to read, and the source refused. All that the steps before it wrote has been written. Of
+-- the input that they left that step took the first bytes at most, and `new` is the machine before it with the
+-- memory that it leaves where there is no more than these to read.
 pub record ReadFailsWithin (old : MachineState) (steps : ℕ) (new : MachineState) (before now : Outside) : Type 0 where
   pub given : List ℕ
   pub streams : Streams
@@ -55,14 +64,17 @@ pub record ReadFailsWithin (old : MachineState) (steps : ℕ) (new : MachineStat
   pub within : done < steps
   pub machine : MachineState
   pub running : machine_run old given done ≡ Running machine streams
-  pub same : SameButBuffer machine new
+  pub asks : Asks machine ReadInput
   pub took : ℕ
+  pub next : MachineState
+  pub goes_on : machine_step machine (record streams { input = take took streams.input }) ≡ Running next (record streams { input = [] })
+  pub same : new ≡ record machine { segments = next.segments }
   pub passes : Passes given (record streams { input = drop took streams.input }) before now
 
 abbrev pub Continues : List ℕ → List ℕ → Type 0
 Continues bytes longer = (more : List ℕ) × (longer ≡ bytes ++ more)
 
--- One of the steps called a sink, which refused. What was written lies between what the run had written
+-- One of the steps asked to write, and the sink refused. What was written lies between what the run had written
 -- before that step and what it has written after it, and `new` is the machine before it.
 pub record WriteFailsWithin (old : MachineState) (steps : ℕ) (new : MachineState) (before now : Outside) : Type 0 where
   pub given : List ℕ
@@ -70,6 +82,7 @@ pub record WriteFailsWithin (old : MachineState) (steps : ℕ) (new : MachineSta
   pub done : ℕ
   pub within : done < steps
   pub running : machine_run old given done ≡ Running new streams
+  pub asks : Asks new WriteOutput ⊎ Asks new WriteError
   pub next : MachineState
   pub whole : Streams
   pub goes_on : machine_run old given (done + 1) ≡ Running next whole

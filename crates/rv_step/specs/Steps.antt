@@ -3,7 +3,7 @@ use Rattle.std.specs.Prelude.{◌≡◌, ℕ, Bool, true, List, [], ◌++◌, le
 use Rattle.std.specs.Option.{option_map}
 use Rattle.num_core.specs.Run.{Run, Running, Ended, Stopped, Streams, Outside}
 use Rattle.rv_step.specs.Machine.{MachineState, traps, overwritten, bytes_at, with_bytes_at}
-use Rattle.rv_step.specs.Outcomes.{SameButBuffer, Continues}
+use Rattle.rv_step.specs.Outcomes.{Continues}
 use Rattle.rv_step.specs.declared.segment.Segment.{Segment}
 use Rattle.rv_step.specs.declared.trap.Trap.{Trap}
 use Rattle.rv_step.specs.declared.trap.Cause.{Cause}
@@ -68,9 +68,12 @@ pub record StepTraps (step : Streams → Run MachineState Trap) (trap : Trap) (o
   pub same_machine : new ≡ old
   pub same : now ≡ before
 
-pub record ReadBreaksOff (ended : Bool) (old new : MachineState) (before now : Outside) : Type 0 where
-  pub same : SameButBuffer old new
+-- the bytes `taken` were read, as the step reads them where there are no more
+pub record ReadBreaksOff (step : Streams → Run MachineState Trap) (ended : Bool) (old new : MachineState) (before now : Outside) : Type 0 where
   pub taken : List ℕ
+  pub next : MachineState
+  pub leads : (streams : Streams) → step (record streams { input = taken }) ≡ Running next (record streams { input = [] })
+  pub same : new ≡ record old { segments = next.segments }
   pub not_ended : ended ≡ true → ⊥
   pub exchanged : Exchanges (record nothing { taken = taken }) before now
 
@@ -92,7 +95,7 @@ abbrev pub StepAnswers : (Streams → Run MachineState Trap) → Result (Option 
 StepAnswers step (Ok None) ended at_end old new before now = StepsOn step ended at_end new before now
 StepAnswers step (Ok (Some status)) ended at_end old new before now = StepEnds step status before now
 StepAnswers step (Err (Trapped trap)) ended at_end old new before now = StepTraps step trap old new before now
-StepAnswers step (Err ReadFault) ended at_end old new before now = ReadBreaksOff ended old new before now
+StepAnswers step (Err ReadFault) ended at_end old new before now = ReadBreaksOff step ended old new before now
 StepAnswers step (Err WriteFault) ended at_end old new before now = WriteBreaksOff step old new before now
 
 -- what a fault of a step is called where a run was asked for

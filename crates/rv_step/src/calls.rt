@@ -1,8 +1,8 @@
 //! Calls of the environment.
 ghost use Rattle.std.specs.Prelude.{◌≡◌, ◌⊎◌, ◌+◌, ◌≤◌, ℕ, List, length, Option, OnOk, OnErr, IfOk, IfSome, Bool, [], ◌≢◌, true};
 ghost use Rattle.ilc_io.specs.Count.{HasRisen};
-ghost use Rattle.rv_step.specs.Machine.{environment_call, request as is_request, writes, reads, to_output, to_error, next_pc, with_register};
-ghost use Rattle.rv_step.specs.Outcomes.{outside};
+ghost use Rattle.rv_step.specs.Machine.{environment_call, register, request as is_request, writes, reads, to_output, to_error, next_pc, with_register};
+ghost use Rattle.rv_step.specs.Outcomes.{outside, Requests};
 ghost use Rattle.rv_step.specs.Steps.{StepAnswers, EndIsTrue, Wrote, WroteSome};
 
 use crate::fault::StepFault;
@@ -78,8 +78,8 @@ impl Machine {
     ) -> Result<Option<u8>, StepFault>
         requires { EndIsTrue at_end.old (outside (I.rest input.old) (O.written out.old) (E.written err.old)) }
         ensures answers { StepAnswers (environment_call self.old) result at_end.old at_end.new self.old self.new (outside (I.rest input.old) (O.written out.old) (E.written err.old)) (outside (I.rest input.new) (O.written out.new) (E.written err.new)) }
-        ensures read_fault { result ≡ Err StepFault.ReadFault → HasRisen (I.faults input.old) (I.faults input.new) }
-        ensures write_fault { result ≡ Err StepFault.WriteFault → HasRisen (O.faults out.old) (O.faults out.new) ⊎ HasRisen (E.faults err.old) (E.faults err.new) }
+        ensures read_fault { result ≡ Err StepFault.ReadFault → Requests self.old Request.ReadInput × HasRisen (I.faults input.old) (I.faults input.new) }
+        ensures write_fault { result ≡ Err StepFault.WriteFault → (Requests self.old Request.WriteOutput × HasRisen (O.faults out.old) (O.faults out.new)) ⊎ (Requests self.old Request.WriteError × HasRisen (E.faults err.old) (E.faults err.new)) }
         ensures input_faults { I.faults input.old ≤ I.faults input.new }
         ensures output_faults { O.faults out.old ≤ O.faults out.new }
         ensures error_faults { E.faults err.old ≤ E.faults err.new }
@@ -107,7 +107,7 @@ impl Machine {
         ensures to_output { (ended : Bool) (rest error : Option (List ℕ)) → EndIsTrue ended (outside rest (S.written sink.old) error) → StepAnswers (writes self.old to_output) result ended ended self.old self.new (outside rest (S.written sink.old) error) (outside rest (S.written sink.new) error) }
         ensures to_error { (ended : Bool) (rest output : Option (List ℕ)) → EndIsTrue ended (outside rest output (S.written sink.old)) → StepAnswers (writes self.old to_error) result ended ended self.old self.new (outside rest output (S.written sink.old)) (outside rest output (S.written sink.new)) }
         ensures not_read { result ≢ Err StepFault.ReadFault }
-        ensures failed { result ≡ Err StepFault.WriteFault → HasRisen (S.faults sink.old) (S.faults sink.new) }
+        ensures failed { result ≡ Err StepFault.WriteFault → (register self.old 12 ≢ 0) × HasRisen (S.faults sink.old) (S.faults sink.new) }
         ensures faults_kept { S.faults sink.old ≤ S.faults sink.new }
     {
         let count = self.get(Register::of(A2));
@@ -136,15 +136,15 @@ impl Machine {
         requires { at_end.old ≡ true → IfSome (I.rest input.old) (λ rest. rest ≡ []) }
         ensures answers { (output error : Option (List ℕ)) → StepAnswers (reads self.old) result at_end.old at_end.new self.old self.new (outside (I.rest input.old) output error) (outside (I.rest input.new) output error) }
         ensures not_written { result ≢ Err StepFault.WriteFault }
-        ensures failed { result ≡ Err StepFault.ReadFault → HasRisen (I.faults input.old) (I.faults input.new) }
+        ensures failed { result ≡ Err StepFault.ReadFault → (register self.old 12 ≢ 0) × HasRisen (I.faults input.old) (I.faults input.new) }
         ensures faults_kept { I.faults input.old ≤ I.faults input.new }
     {
-        let count = self.get(Register::of(A2));
-        if count == 0 {
+        let wanted = self.get(Register::of(A2));
+        if wanted == 0 {
             self.answer(0);
             return Ok(None);
         }
-        match self.fill(self.get(Register::of(A1)), count, input, at_end) {
+        match self.fill(self.get(Register::of(A1)), wanted, input, at_end) {
             Ok(Some(got)) => {
                 self.answer(got);
                 Ok(None)

@@ -1,8 +1,9 @@
 ghost use Rattle.std.specs.Prelude.{◌≡◌, ◌≢◌, ◌⊎◌, ◌≤◌};
 ghost use Rattle.ilc_io.specs.Count.{HasRisen};
 ghost use Rattle.rv_step.specs.Machine.{machine_step, effect};
-ghost use Rattle.rv_step.specs.Outcomes.{outside};
+ghost use Rattle.rv_step.specs.Outcomes.{outside, Asks};
 ghost use Rattle.rv_step.specs.Steps.{Does, StepAnswers, EndIsTrue};
+ghost use Rattle.rv_step.specs.declared.calls.Request.TheVariants.{ReadInput, WriteOutput, WriteError};
 
 use crate::fault::StepFault;
 use crate::machine::Machine;
@@ -23,8 +24,8 @@ impl Machine {
     ) -> Result<Option<u8>, StepFault>
         requires { EndIsTrue at_end.old (outside (I.rest input.old) (O.written out.old) (E.written err.old)) }
         ensures answers { StepAnswers (machine_step self.old) result at_end.old at_end.new self.old self.new (outside (I.rest input.old) (O.written out.old) (E.written err.old)) (outside (I.rest input.new) (O.written out.new) (E.written err.new)) }
-        ensures read_fault { result ≡ Err StepFault.ReadFault → HasRisen (I.faults input.old) (I.faults input.new) }
-        ensures write_fault { result ≡ Err StepFault.WriteFault → HasRisen (O.faults out.old) (O.faults out.new) ⊎ HasRisen (E.faults err.old) (E.faults err.new) }
+        ensures read_fault { result ≡ Err StepFault.ReadFault → Asks self.old ReadInput × HasRisen (I.faults input.old) (I.faults input.new) }
+        ensures write_fault { result ≡ Err StepFault.WriteFault → (Asks self.old WriteOutput × HasRisen (O.faults out.old) (O.faults out.new)) ⊎ (Asks self.old WriteError × HasRisen (E.faults err.old) (E.faults err.new)) }
         ensures input_faults { I.faults input.old ≤ I.faults input.new }
         ensures output_faults { O.faults out.old ≤ O.faults out.new }
         ensures error_faults { E.faults err.old ≤ E.faults err.new }
@@ -35,26 +36,6 @@ impl Machine {
         let Ok(ins) = decode(word) else {
             return Err(StepFault::Trap(self.trap(Cause::Illegal)));
         };
-        self.execute(ins, input, out, err, at_end)
-    }
-
-    /// Does an instruction.
-    fn execute<I: Source, O: Sink, E: Sink>(
-        &mut self,
-        ins: Ins,
-        input: &mut I,
-        out: &mut O,
-        err: &mut E,
-        at_end: &mut bool,
-    ) -> Result<Option<u8>, StepFault>
-        requires { EndIsTrue at_end.old (outside (I.rest input.old) (O.written out.old) (E.written err.old)) }
-        ensures answers { StepAnswers (effect ins self.old) result at_end.old at_end.new self.old self.new (outside (I.rest input.old) (O.written out.old) (E.written err.old)) (outside (I.rest input.new) (O.written out.new) (E.written err.new)) }
-        ensures read_fault { result ≡ Err StepFault.ReadFault → HasRisen (I.faults input.old) (I.faults input.new) }
-        ensures write_fault { result ≡ Err StepFault.WriteFault → HasRisen (O.faults out.old) (O.faults out.new) ⊎ HasRisen (E.faults err.old) (E.faults err.new) }
-        ensures input_faults { I.faults input.old ≤ I.faults input.new }
-        ensures output_faults { O.faults out.old ≤ O.faults out.new }
-        ensures error_faults { E.faults err.old ≤ E.faults err.new }
-    {
         match ins {
             Ins::Ecall => self.call(input, out, err, at_end),
             _ => match self.perform(ins) {

@@ -101,7 +101,7 @@ impl Machine {
         let Some(bytes) = self.read(address, 4) else {
             return Err(Cause::Load);
         };
-        let value = LittleEndian::read_u32(bytes) as u64;
-        self.give(register, value)
+        let word = LittleEndian::read_u32(bytes);
+        self.give(register, word as u64)
     }
 }

@@ -1,6 +1,7 @@
 ghost use Rattle.std.specs.Prelude.{◌≡◌, ◌⊎◌, ℕ, ◌≤◌, IfOk};
 ghost use Rattle.ilc_io.specs.Count.{HasRisen};
-ghost use Rattle.rv_step.specs.Outcomes.{outside, GoesOn, EndsAfter, TrapsWithin, ReadFailsWithin, WriteFailsWithin};
+ghost use Rattle.rv_step.specs.Outcomes.{outside, Asks, GoesOn, EndsAfter, TrapsWithin, ReadFailsWithin, WriteFailsWithin};
+ghost use Rattle.rv_step.specs.declared.calls.Request.TheVariants.{WriteOutput, WriteError};
 ghost use Rattle.rv_step.specs.declared.trap.Trap.{Trap};
 
 use crate::fault::{RunFault, StepFault};
@@ -30,7 +31,7 @@ impl Machine {
         ensures read_fails { result ≡ Err StepFault.ReadFault → ReadFailsWithin self.old 1 self.new (outside (I.rest input.old) (O.written out.old) (E.written err.old)) (outside (I.rest input.new) (O.written out.new) (E.written err.new)) }
         ensures write_fails { result ≡ Err StepFault.WriteFault → WriteFailsWithin self.old 1 self.new (outside (I.rest input.old) (O.written out.old) (E.written err.old)) (outside (I.rest input.new) (O.written out.new) (E.written err.new)) }
         ensures read_fault { result ≡ Err StepFault.ReadFault → HasRisen (I.faults input.old) (I.faults input.new) }
-        ensures write_fault { result ≡ Err StepFault.WriteFault → HasRisen (O.faults out.old) (O.faults out.new) ⊎ HasRisen (E.faults err.old) (E.faults err.new) }
+        ensures write_fault { result ≡ Err StepFault.WriteFault → (Asks self.new WriteOutput × HasRisen (O.faults out.old) (O.faults out.new)) ⊎ (Asks self.new WriteError × HasRisen (E.faults err.old) (E.faults err.new)) }
         ensures input_faults { I.faults input.old ≤ I.faults input.new }
         ensures output_faults { O.faults out.old ≤ O.faults out.new }
         ensures error_faults { E.faults err.old ≤ E.faults err.new }
@@ -54,7 +55,7 @@ impl Machine {
         ensures read_fails { result ≡ Err RunFault.ReadFault → ReadFailsWithin self.old steps self.new (outside (I.rest input.old) (O.written out.old) (E.written err.old)) (outside (I.rest input.new) (O.written out.new) (E.written err.new)) }
         ensures write_fails { result ≡ Err RunFault.WriteFault → WriteFailsWithin self.old steps self.new (outside (I.rest input.old) (O.written out.old) (E.written err.old)) (outside (I.rest input.new) (O.written out.new) (E.written err.new)) }
         ensures read_fault { result ≡ Err RunFault.ReadFault → HasRisen (I.faults input.old) (I.faults input.new) }
-        ensures write_fault { result ≡ Err RunFault.WriteFault → HasRisen (O.faults out.old) (O.faults out.new) ⊎ HasRisen (E.faults err.old) (E.faults err.new) }
+        ensures write_fault { result ≡ Err RunFault.WriteFault → (Asks self.new WriteOutput × HasRisen (O.faults out.old) (O.faults out.new)) ⊎ (Asks self.new WriteError × HasRisen (E.faults err.old) (E.faults err.new)) }
         ensures input_faults { I.faults input.old ≤ I.faults input.new }
         ensures output_faults { O.faults out.old ≤ O.faults out.new }
         ensures error_faults { E.faults err.old ≤ E.faults err.new }

@@ -1,5 +1,5 @@
 use Rattle.std.proofs.Common.{arith}
-use Rattle.rv_step.proofs.Exchanges.{wrote_nothing, wrote_more, piece_within, wrote_whole, wrote_some}
+use Rattle.rv_step.proofs.Exchanges.{wrote_nothing, wrote_more, piece_within, wrote_some}
 use Rattle.rv_step.proofs.calls.write_all.Goals as goal
 
 pub loop-done-init : goal.loop-done-init

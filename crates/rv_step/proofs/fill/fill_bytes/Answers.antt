@@ -1,5 +1,4 @@
-use Rattle.std.proofs.Common.{◌≡◌, ◌+◌, ◌-◌, ◌<◌, ◌≤◌, ◌==◌, false, length, take, arith, length-take}
-use Rattle.rv_step.specs.Steps.{FilledBytes}
+use Rattle.std.proofs.Common.{◌≡◌, ◌-◌, ◌<◌, ◌≤◌, false, length, take, arith, length-take}
 use Rattle.rv_step.proofs.Exchanges.{filled_start, filled_step}
 use Rattle.rv_step.proofs.fill.fill_bytes.Goals as goal
 
@@ -15,7 +14,7 @@ loop-at-init g c = record {
 pub loop-at-preserved : goal.loop-at-preserved
 loop-at-preserved g c =
     let inv = c.loop-at.invariant in
-    let goes : c.loop-at.at_end ≡ false = grind arith in
+    let goes : c.loop-at.at_end ≡ false = assumption c in
     let lt : c.loop-at.at < c.args.end = c.loop-at-test.true in
     let inside : c.args.from ≤ length c.args.bytes.now = omega (arith, c.requires.rising, c.requires.within) in
     let few : c.min-wanted.result ≤ c.args.end - c.loop-at.at = omega (arith, c.min-wanted.ensures) in

@@ -1,6 +1,4 @@
-use Rattle.std.proofs.Common.{◌∙◌, ◌≡◌, length, ap, sym, Some, None, set}
-use Rattle.std.specs.List.{position}
-use Rattle.rv_step.specs.Segments.{serves, patched}
+use Rattle.std.proofs.Common.{◌∙◌, length, ap, sym, Some, set}
 use Rattle.rv_step.specs.declared.segment.Access.TheVariants.{Write}
 use Rattle.rv_step.proofs.Memory.{with_bytes_at_some, with_bytes_at_none, served}
 use Rattle.rv_step.proofs.segment.write_bytes.Goals as goal

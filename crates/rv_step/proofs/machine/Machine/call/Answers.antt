@@ -1,7 +1,8 @@
+use Rattle.std.proofs.Common.{inl, inr}
 use Rattle.rv_step.specs.Machine.{environment_call, reads, writes, to_output, to_error}
 use Rattle.rv_step.specs.declared.calls.Request.TheVariants.{ReadInput, WriteOutput, WriteError}
 use Rattle.rv_step.proofs.Steps.{answers_same}
-use Rattle.rv_step.proofs.Requests.{call_is, read_by}
+use Rattle.rv_step.proofs.Requests.{call_is, request_is, read_by}
 use Rattle.rv_step.proofs.machine.Machine.call.Goals as goal
 
 pub returns-in-ReadInput-clause-answers : goal.returns-in-ReadInput-clause-answers
@@ -24,3 +25,21 @@ returns-in-WriteError-clause-answers g c =
     answers_same (writes m to_error) (environment_call m) c.write_call-in-WriteError.result _ _ _ _ _ _
     (call_is m c.get.result c.get-a0.result WriteError (read_by m _ _ 17 c.get.ensures c.of-2.ensures) (read_by m _ _ 10 c.get-a0.ensures c.of.ensures) c.in-WriteError.ensures)
     (c.write_call-in-WriteError.ensures.to_error _ _ _ c.requires)
+
+pub returns-in-ReadInput-clause-read_fault : goal.returns-in-ReadInput-clause-read_fault
+returns-in-ReadInput-clause-read_fault g c = λ is.
+    let m = c.args.self.now in
+    let failed = c.read_call.ensures.failed is in
+    ((request_is m _ _ ReadInput (read_by m _ _ 17 c.get.ensures c.of-2.ensures) (read_by m _ _ 10 c.get-a0.ensures c.of.ensures) c.in-ReadInput.ensures, failed.0), failed.1)
+
+pub returns-in-WriteOutput-clause-write_fault : goal.returns-in-WriteOutput-clause-write_fault
+returns-in-WriteOutput-clause-write_fault g c = λ is.
+    let m = c.args.self.now in
+    let failed = c.write_call.ensures.failed is in
+    inl ((request_is m _ _ WriteOutput (read_by m _ _ 17 c.get.ensures c.of-2.ensures) (read_by m _ _ 10 c.get-a0.ensures c.of.ensures) c.in-WriteOutput.ensures, failed.0), failed.1)
+
+pub returns-in-WriteError-clause-write_fault : goal.returns-in-WriteError-clause-write_fault
+returns-in-WriteError-clause-write_fault g c = λ is.
+    let m = c.args.self.now in
+    let failed = c.write_call-in-WriteError.ensures.failed is in
+    inr ((request_is m _ _ WriteError (read_by m _ _ 17 c.get.ensures c.of-2.ensures) (read_by m _ _ 10 c.get-a0.ensures c.of.ensures) c.in-WriteError.ensures, failed.0), failed.1)

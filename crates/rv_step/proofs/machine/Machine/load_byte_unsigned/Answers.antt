@@ -1,4 +1,4 @@
-use Rattle.std.proofs.Common.{◌∙◌, ap, slice_index}
+use Rattle.std.proofs.Common.{slice_index}
 use Rattle.rv_step.proofs.Effects.{load_done, first_byte}
 use Rattle.rv_step.proofs.machine.Machine.load_byte_unsigned.Goals as goal
 

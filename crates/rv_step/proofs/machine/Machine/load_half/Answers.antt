@@ -1,4 +1,4 @@
-use Rattle.std.proofs.Common.{◌∙◌, ap, slice_index}
+use Rattle.std.proofs.Common.{◌∙◌, ap}
 use Rattle.std.specs.Int.{cast_signed, w16}
 use Rattle.rv_step.specs.Machine.{low_bits}
 use Rattle.rv_step.proofs.Effects.{load_done}

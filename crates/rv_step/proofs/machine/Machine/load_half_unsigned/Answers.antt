@@ -1,4 +1,3 @@
-use Rattle.std.proofs.Common.{◌∙◌, ap, slice_index}
 use Rattle.rv_step.proofs.Effects.{load_done}
 use Rattle.rv_step.proofs.machine.Machine.load_half_unsigned.Goals as goal
 

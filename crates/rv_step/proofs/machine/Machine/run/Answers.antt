@@ -1,7 +1,7 @@
-use Rattle.std.proofs.Common.{arith, ◌≤◌, ◌≡◌, ◌<◌, ℕ, Ok, Err, Some, None, subst, sym}
+use Rattle.std.proofs.Common.{arith, ◌≡◌, ◌<◌, Ok, Err, Some, None, ap}
 use Rattle.rv_step.specs.Steps.{run_fault}
 use Rattle.rv_step.specs.declared.fault.RunFault.TheVariants.{Trap, ReadFault, WriteFault}
-use Rattle.rv_step.proofs.Steps.{progress_start, progress_more, progress_spent, goes_on, step_ends, fault_traps, fault_reads, fault_writes, answers_at}
+use Rattle.rv_step.proofs.Steps.{progress_start, progress_more, progress_spent, step_ends, fault_traps, fault_reads, fault_writes, answers_at, write_keeps, run_write_fault, asked_first, asked_which}
 use Rattle.rv_step.proofs.machine.Machine.run.Goals as goal
 
 pub loop-done-init : goal.loop-done-init
@@ -34,13 +34,21 @@ pub returns-in-Err-clause-read_fails : goal.returns-in-Err-clause-read_fails
 returns-in-Err-clause-read_fails g c = λ is.
     let named : run_fault c.in-Err.fault ≡ ReadFault = cc in
     let lt : c.loop-done.done < c.args.steps = c.loop-done-test.true in
-    fault_reads c.in-Err.fault _ _ _ _ _ _ _ _ _ _ named lt c.loop-done.invariant.progress c.in-Err.ensures.answers
+    fault_reads c.in-Err.fault _ _ _ _ _ _ _ _ _ _ named lt (λ e. (c.in-Err.ensures.read_fault (ap Err e)).0) c.loop-done.invariant.progress c.in-Err.ensures.answers
 
 pub returns-in-Err-clause-write_fails : goal.returns-in-Err-clause-write_fails
 returns-in-Err-clause-write_fails g c = λ is.
     let named : run_fault c.in-Err.fault ≡ WriteFault = cc in
     let lt : c.loop-done.done < c.args.steps = c.loop-done-test.true in
-    fault_writes c.in-Err.fault _ _ _ _ _ _ _ _ _ _ named lt c.loop-done.invariant.progress c.in-Err.ensures.answers
+    fault_writes c.in-Err.fault _ _ _ _ _ _ _ _ _ _ named lt (λ e. asked_which _ _ _ (c.in-Err.ensures.write_fault (ap Err e))) c.loop-done.invariant.progress c.in-Err.ensures.answers
+
+pub returns-in-Err-clause-write_fault : goal.returns-in-Err-clause-write_fault
+returns-in-Err-clause-write_fault g c = λ is.
+    let named : run_fault c.in-Err.fault ≡ WriteFault = cc in
+    let same = run_write_fault c.in-Err.fault named in
+    asked_first c.loop-done.self c.advance.new.self _ _ _ _ (write_keeps c.in-Err.fault _ _ _ _ _ _ _ same c.in-Err.ensures.answers)
+    (λ h. omega (arith, h, c.loop-done.invariant.output_faults)) (λ h. omega (arith, h, c.loop-done.invariant.error_faults))
+    (c.in-Err.ensures.write_fault (ap Err same))
 
 pub returns-clause-spent : goal.returns-clause-spent
 returns-clause-spent g c = λ done is.

@@ -1,6 +1,5 @@
-use Rattle.std.proofs.Common.{◌≡◌, ◌∙◌, Some, ap, sym, subst}
-use Rattle.rv_step.specs.Machine.{register, bytes_at, to_output, to_error}
-use Rattle.rv_step.proofs.Requests.{answered, writes_nothing, wrote_output, wrote_error, broke_output, broke_error, there_by, zero_by, some_by, answered_by}
+use Rattle.rv_step.specs.Machine.{to_output, to_error}
+use Rattle.rv_step.proofs.Requests.{writes_nothing, wrote_output, wrote_error, broke_output, broke_error, there_by, zero_by, some_by, answered_by}
 use Rattle.rv_step.proofs.machine.Machine.write_call.Goals as goal
 
 pub returns-then-count-eq0-clause-to_output : goal.returns-then-count-eq0-clause-to_output
@@ -26,3 +25,6 @@ returns-in-Err-clause-to_output g c = λ ended rest error end.
 pub returns-in-Err-clause-to_error : goal.returns-in-Err-clause-to_error
 returns-in-Err-clause-to_error g c = λ ended rest output end.
     broke_error c.args.self.now c.in-Some.bytes.now rest output _ _ (some_by c.args.self.now _ _ c.get-count.ensures c.of.ensures c.if-count-eq0.false) (there_by c.args.self.now c.in-Some.bytes.now _ _ _ _ c.get-count.ensures c.of.ensures c.get.ensures c.of-2.ensures c.in-Some.ensures.bytes) c.in-Err.ensures.some
+
+pub returns-in-Err-clause-failed : goal.returns-in-Err-clause-failed
+returns-in-Err-clause-failed g c = λ is. (some_by c.args.self.now _ _ c.get-count.ensures c.of.ensures c.if-count-eq0.false, c.in-Err.ensures.failed)
