@@ -1,5 +1,5 @@
 -- The file of a body's code does what the body does.
-use Rattle.std.proofs.Common.{◌≡◌, ◌∙◌, ℕ, suc, ◌+◌, ◌-◌, ◌*◌, ◌/◌, ◌%◌, ◌^◌, ◌<◌, ◌≤◌, List, [], ◌∷◌, ◌++◌, length, arith, refl, ap, sym, Result, Ok, Option, Some, None, length-append, replicate}
+use Rattle.std.proofs.Common.{◌≡◌, ◌∙◌, ℕ, suc, ◌+◌, ◌-◌, ◌*◌, ◌/◌, ◌%◌, ◌^◌, ◌<◌, ◌≤◌, List, [], ◌∷◌, ◌++◌, length, arith, refl, ap, sym, Result, Ok, Option, Some, None, length-append, replicate, All}
 use Rattle.std.proofs.lemmas.List.{length-replicate}
 use Rattle.num_core.specs.Run.{Run, Running, Streams}
 use Rattle.num_core.proofs.Runs.{keeps_step}
@@ -14,7 +14,7 @@ use Rattle.elf_file.specs.declared.layout.ElfLayout.{ElfLayout}
 use Rattle.elf_file.specs.Elf.{loaded, machine_of, headers_of, text_segment, rest_segment, base}
 use Rattle.ilc.specs.Bare.{ReadsBare}
 use Rattle.ilc.specs.Cil.{cil_step, cil_start}
-use Rattle.ilc.specs.Code.{code_of, code_from, text_of, operation_code, optional_code, optional_depth}
+use Rattle.ilc.specs.Code.{code_of, code_from, IsInt32Instr, text_of, operation_code, optional_code, optional_depth}
 use Rattle.ilc.specs.Implements.{Implements}
 use Rattle.ilc.proofs.Blocks.{OnStack}
 use Rattle.ilc.proofs.Place.{StandsAt, length-text_of}
@@ -80,8 +80,8 @@ starts bytes body reads layout front text entry zeros =
     }
 
 -- The file of the code stands for the body.
-pub implements : (bytes : List ℕ) (body : Body) (reads : ReadsBare bytes body) (layout : ElfLayout) (elf : List ℕ) → base + length (headers_of layout) ≡ 0x100B0 → layout.text ≡ text_of (code_of body.code) → layout.entry ≡ 0x100B0 → layout.zeros ≡ 9437184 → loaded elf ≡ Ok (machine_of layout) → Implements body elf
-implements bytes body reads layout elf front text entry zeros loads =
+pub implements : (bytes : List ℕ) (body : Body) (reads : ReadsBare bytes body) (layout : ElfLayout) (elf : List ℕ) → base + length (headers_of layout) ≡ 0x100B0 → layout.text ≡ text_of (code_of body.code) → layout.entry ≡ 0x100B0 → layout.zeros ≡ 9437184 → All IsInt32Instr body.code → loaded elf ≡ Ok (machine_of layout) → Implements body elf
+implements bytes body reads layout elf front text entry zeros constants loads =
     record {
       machine = machine_of layout;
       loads = loads;
@@ -89,6 +89,6 @@ implements bytes body reads layout elf front text entry zeros loads =
           let streams : Streams = record { input = input; output = []; error = [] } in
           keeps_step (cil_step body) machine_step (Related body (headers_of layout) (text_segment layout)) (simulates body (headers_of layout) (text_segment layout))
           (Running cil_start streams) (Running (machine_of layout) streams)
-          (AtInstruction 0 0 [] body.code (machine_of layout) streams (straight bytes body reads)
+          (AtInstruction 0 0 [] body.code (machine_of layout) streams (straight bytes body reads constants)
           (record { size = refl; done = []; split = refl; earlier = tt; before = []; code = refl; slots = rest_segment layout; on = starts bytes body reads layout front text entry zeros })) n;
     }

@@ -17,11 +17,11 @@ use Rattle.rv_step.specs.declared.segment.Segment.{Segment}
 use Rattle.rv_step.specs.declared.trap.Trap.{Trap}
 use Rattle.ilc.specs.Bare.{is_return}
 use Rattle.ilc.specs.Cil.{CilState, CilCause, cil_step, Frame, Slot, Int32, instruction_in, on_instruction, performs, result_of}
-use Rattle.ilc.specs.Code.{code_of, code_from, operation_code, optional_code, optional_depth}
+use Rattle.ilc.specs.Code.{code_of, code_from, LoadsInt32, operation_code, optional_code, optional_depth}
 use Rattle.ilc.specs.Typing.{takes, depth_behind}
 use Rattle.ilc.proofs.Blocks.{OnStack, Went, went_nowhere, went_constant, went_duplicate, went_binary, went_home}
 use Rattle.ilc.proofs.Place.{BlockAt, block_at}
-use Rattle.ilc.proofs.Straight.{Straight, Returns, Goes, constant_fits}
+use Rattle.ilc.proofs.Straight.{Straight, Returns, Goes}
 
 -- the slots of an evaluation stack of numbers
 abbrev pub slots_of : List ℤ → List Slot
@@ -162,21 +162,21 @@ follows_binary body front text depth (b ∷ a ∷ stack) i operation rest m stre
     follows body front text depth (suc (suc (suc (suc (suc (length is.before)))))) (b ∷ a ∷ stack) (held I4 (result_of operation (number I4 a) (number I4 b)) ∷ stack) i (Binary operation) rest m streams is does later straight refl
     (went_binary stack operation a b streams (omega (arith, h, few)) is.on (block_of body front text depth (b ∷ a ∷ stack) i (Binary operation) rest m is does)) (omega arith) (omega (arith, h, some))
 
-follows_operation : (body : Body) (front : List ℕ) (text : Segment) (depth : ℕ) (stack : List ℤ) (i : Instr) (operation : Operation) (rest : List Instr) (m : MachineState) (streams : Streams) → IsAt body front text i.at depth stack (i ∷ rest) m → operation_of i.op i.operand ≡ Some operation → is_return operation ≡ false → takes operation ≤ depth → depth ≤ 8 → i.at < i.next → Straight 8 (depth_behind depth operation) i.next rest → Follows body front text (cil_step body (state_at i.at stack) streams) m streams
-follows_operation body front text depth stack i NoOperation rest m streams is does goes some few later straight =
+follows_operation : (body : Body) (front : List ℕ) (text : Segment) (depth : ℕ) (stack : List ℤ) (i : Instr) (operation : Operation) (rest : List Instr) (m : MachineState) (streams : Streams) → IsAt body front text i.at depth stack (i ∷ rest) m → operation_of i.op i.operand ≡ Some operation → is_return operation ≡ false → LoadsInt32 operation → takes operation ≤ depth → depth ≤ 8 → i.at < i.next → Straight 8 (depth_behind depth operation) i.next rest → Follows body front text (cil_step body (state_at i.at stack) streams) m streams
+follows_operation body front text depth stack i NoOperation rest m streams is does goes loads some few later straight =
     follows body front text depth (suc (length is.before)) stack stack i NoOperation rest m streams is does later straight refl
     (went_nowhere stack stack streams is.on (block_of body front text depth stack i NoOperation rest m is does) is.on.holds) (omega arith) (omega (arith, is.size))
-follows_operation body front text depth stack i (Constant n) rest m streams is does goes some few later straight =
+follows_operation body front text depth stack i (Constant n) rest m streams is does goes loads some few later straight =
     follows body front text depth (suc (suc (suc (suc (length is.before))))) stack (n ∷ stack) i (Constant n) rest m streams is does later straight refl
-    (went_constant stack n streams (constant_fits i.op i.operand n does) (omega (arith, is.size, few)) is.on (block_of body front text depth stack i (Constant n) rest m is does)) (omega arith) (omega (arith, is.size))
-follows_operation body front text depth stack i Duplicate rest m streams is does goes some few later straight = follows_duplicate body front text depth stack i rest m streams is does some few later straight
-follows_operation body front text depth stack i Discard rest m streams is does goes some few later straight = follows_discard body front text depth stack i rest m streams is does some later straight
-follows_operation body front text depth stack i (Binary operation) rest m streams is does goes some few later straight = follows_binary body front text depth stack i operation rest m streams is does some few later straight
-follows_operation body front text depth stack i Return rest m streams is does goes some few later straight = cc
+    (went_constant stack n streams loads (omega (arith, is.size, few)) is.on (block_of body front text depth stack i (Constant n) rest m is does)) (omega arith) (omega (arith, is.size))
+follows_operation body front text depth stack i Duplicate rest m streams is does goes loads some few later straight = follows_duplicate body front text depth stack i rest m streams is does some few later straight
+follows_operation body front text depth stack i Discard rest m streams is does goes loads some few later straight = follows_discard body front text depth stack i rest m streams is does some later straight
+follows_operation body front text depth stack i (Binary operation) rest m streams is does goes loads some few later straight = follows_binary body front text depth stack i operation rest m streams is does some few later straight
+follows_operation body front text depth stack i Return rest m streams is does goes loads some few later straight = cc
 
 follows_straight : (body : Body) (front : List ℕ) (text : Segment) (at depth : ℕ) (stack : List ℤ) (rest : List Instr) (m : MachineState) (streams : Streams) → Straight 8 depth at rest → IsAt body front text at depth stack rest m → Follows body front text (cil_step body (state_at at stack) streams) m streams
 follows_straight body front text _ _ stack _ m streams (Returns i does) is = follows_return body front text stack i m streams is does
-follows_straight body front text _ _ stack _ m streams (Goes depth i operation rest does goes some few later straight) is = follows_operation body front text depth stack i operation rest m streams is does goes some few later straight
+follows_straight body front text _ _ stack _ m streams (Goes depth i operation rest does goes loads some few later straight) is = follows_operation body front text depth stack i operation rest m streams is does goes loads some few later straight
 
 -- From related states, one step of the body is 1 to 24 steps of the machine to related states.
 pub goes_within : (body : Body) (front : List ℕ) (text : Segment) (a : Run CilState CilCause) (b : Run MachineState Trap) → Related body front text a b → (count : ℕ) × (count < 24) × Related body front text (one_more (cil_step body) a) (after machine_step (suc count) b)

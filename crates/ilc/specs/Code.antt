@@ -1,6 +1,8 @@
 -- The instructions of a machine that do what CIL instructions do.
-use Rattle.std.specs.Prelude.{ℕ, ◌+◌, ◌-◌, ◌*◌, ◌/◌, ◌%◌, ◌^◌, ℤ, pos, List, [], ◌∷◌, ◌++◌, Option, Some, None}
+use Rattle.std.specs.Prelude.{ℕ, ◌+◌, ◌-◌, ◌*◌, ◌/◌, ◌%◌, ◌^◌, ℤ, pos, FitsSigned, List, [], ◌∷◌, ◌++◌, Option, Some, None}
+use Rattle.std.specs.Int.{w32}
 use Rattle.std.specs.List.{flat_map}
+use Rattle.std.specs.Option.{ForSome}
 use Rattle.byteorder.specs.Endian.{little_bytes}
 use Rattle.il_code.specs.declared.body.Instr.{Instr}
 use Rattle.il_code.specs.declared.operation.Operation.{Operation}
@@ -25,6 +27,14 @@ lower n = signed 12 (low_bits 32 n % 4096)
 -- a register gets a constant
 abbrev pub constant_code : ℕ → ℤ → List Ins
 constant_code rd n = Lui rd (upper n) ∷ Addiw rd rd (lower n) ∷ []
+
+-- what is loaded is an int32
+abbrev pub LoadsInt32 : Operation → Type 0
+LoadsInt32 (Constant n) = FitsSigned w32 n
+LoadsInt32 _ = Unit {0}
+
+abbrev pub IsInt32Instr : Instr → Type 0
+IsInt32Instr i = ForSome (operation_of i.op i.operand) LoadsInt32
 
 -- ---- the evaluation stack in memory: 8 bytes a slot, the deepest first, each a number with its sign extended
 

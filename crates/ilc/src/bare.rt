@@ -56,8 +56,10 @@ fn instructions(alloc: Global, code: &[u8]) -> Result<List<Instr>, Outcome>
     let mut instrs = List::new(alloc);
     let mut at = 0;
     while instrs.len() < code.len() {
-        let Some(instr) = instruction_at(code, at) else {
-            return Err(Outcome::OpcodeOutside { offset: at });
+        let instr = match instruction_at(alloc, code, at) {
+            Ok(Some(instr)) => instr,
+            Ok(None) => return Err(Outcome::OpcodeOutside { offset: at }),
+            Err(_) => return Err(Outcome::Memory),
         };
         let Some(operation) = instr.operation() else {
             return Err(Outcome::OpcodeOutside { offset: instr.at });

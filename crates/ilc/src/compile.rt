@@ -1,7 +1,7 @@
-ghost use Rattle.std.specs.Prelude.{◌≡◌, ◌+◌, ◌<◌, ◌≤◌, ◌++◌, ℕ, List, length, IfOk, OnOk};
+ghost use Rattle.std.specs.Prelude.{◌≡◌, ◌+◌, ◌<◌, ◌≤◌, ◌++◌, ℕ, List, length, All, IfOk, OnOk};
 ghost use Rattle.ilc.specs.Bare.{ReadsBare};
 ghost use Rattle.ilc.specs.Implements.{Implements};
-ghost use Rattle.ilc.specs.Code.{constant_code, exit_code, operation_code, code_of, text_of, upper as upper_of, lower as lower_of, stack_address as stack_address_is, load_slot as load_slot_is, store_slot as store_slot_is, binary_instruction as binary_instruction_is, no_operation as no_operation_is, slot as slot_is};
+ghost use Rattle.ilc.specs.Code.{constant_code, exit_code, operation_code, code_of, LoadsInt32, IsInt32Instr, text_of, upper as upper_of, lower as lower_of, stack_address as stack_address_is, load_slot as load_slot_is, store_slot as store_slot_is, binary_instruction as binary_instruction_is, no_operation as no_operation_is, slot as slot_is};
 
 use crate::typing::depth_behind;
 use byteorder::{ByteOrder, LittleEndian};
@@ -44,7 +44,8 @@ pub(crate) fn compile(alloc: Global, body: &Body) -> Result<Bytes, Memory>
 /// The instructions of a machine for those of a body.
 fn code(alloc: Global, instrs: &[Instr]) -> Result<Vec<Ins>, Memory>
     requires { length instrs.now < 64 }
-    ensures { IfOk result (λ code. code.items ≡ code_of instrs.now) }
+    ensures code { IfOk result (λ code. code.items ≡ code_of instrs.now) }
+    ensures constants { OnOk result (All IsInt32Instr instrs.now) }
 {
     let mut code = Vec::new(alloc);
     let mut depth = 0;
@@ -60,7 +61,8 @@ fn code(alloc: Global, instrs: &[Instr]) -> Result<Vec<Ins>, Memory>
 /// The instructions for an operation on a stack of a depth.
 fn emit(code: &mut Vec<Ins>, depth: u32, operation: Operation) -> Result<(), Memory>
     requires { depth < 128 }
-    ensures { OnOk result (code.new.items ≡ code.old.items ++ operation_code depth operation) }
+    ensures code { OnOk result (code.new.items ≡ code.old.items ++ operation_code depth operation) }
+    ensures constant { LoadsInt32 operation }
 {
     match operation {
         Operation::NoOperation | Operation::Discard => {
@@ -77,7 +79,8 @@ fn emit(code: &mut Vec<Ins>, depth: u32, operation: Operation) -> Result<(), Mem
 /// A constant comes on top of the stack.
 fn emit_load_constant(code: &mut Vec<Ins>, depth: u32, number: i32) -> Result<(), Memory>
     requires { depth < 128 }
-    ensures { OnOk result (code.new.items ≡ code.old.items ++ operation_code depth (Operation.Constant number)) }
+    ensures code { OnOk result (code.new.items ≡ code.old.items ++ operation_code depth (Operation.Constant number)) }
+    ensures constant { LoadsInt32 (Operation.Constant number) }
 {
     emit_constant(code, t1(), number)?;
     code.push(stack_address())?;

@@ -4,8 +4,8 @@ use Rattle.ilc.proofs.Reading.{all_in_front}
 use Rattle.ilc.proofs.bare.instructions.Given as goal
 
 -- those that were read, and what is left, make up the code
-abbrev pub invariant-loop-instr : goal.invariant-loop-instr
-invariant-loop-instr l = bare_code l.code ≡ all_in_front l.instrs (bare_from (length l.code - length l.instrs) l.code l.at)
+abbrev pub invariant-loop-alloc : goal.invariant-loop-alloc
+invariant-loop-alloc l = bare_code l.code ≡ all_in_front l.instrs (bare_from (length l.code - length l.instrs) l.code l.at)
 
-abbrev pub decreases-loop-instr : goal.decreases-loop-instr
-decreases-loop-instr l = length l.code - length l.instrs
+abbrev pub decreases-loop-alloc : goal.decreases-loop-alloc
+decreases-loop-alloc l = length l.code - length l.instrs
