@@ -1,4 +1,4 @@
-use crate::{BodyFault, Op, Operand, Operation, instruction_at, tiny_code};
+use crate::{BinaryOperation, BodyFault, Op, Operand, Operation, instruction_at, tiny_code};
 
 /// The offset of the fault in a body that is refused.
 fn bad_offset(bytes: &[u8]) -> Option<u32> {
@@ -37,7 +37,11 @@ fn short_constants(rt: HostRuntime) {
         (0x15, -1),
         (0x16, 0),
         (0x17, 1),
+        (0x18, 2),
+        (0x19, 3),
         (0x1A, 4),
+        (0x1B, 5),
+        (0x1C, 6),
         (0x1D, 7),
         (0x1E, 8),
     ] {
@@ -69,6 +73,21 @@ fn constants_with_an_operand(rt: HostRuntime) {
     assert_eq!(rt; first(b"\x1F"), None);
     assert_eq!(rt; first(b"\x24"), None);
     assert_eq!(rt; first(b""), None);
+}
+
+/// The instructions on the stack, as the standard lists them (ECMA-335 III.3).
+#[test]
+fn stack_operations(rt: HostRuntime) {
+    for (byte, operation) in [
+        (0x00, Operation::NoOperation),
+        (0x25, Operation::Duplicate),
+        (0x26, Operation::Discard),
+        (0x58, Operation::Binary(BinaryOperation::Add)),
+        (0x59, Operation::Binary(BinaryOperation::Subtract)),
+        (0x5A, Operation::Binary(BinaryOperation::Multiply)),
+    ] {
+        assert_eq!(rt; first(&[byte]), Some((operation, 1)));
+    }
 }
 
 #[test]

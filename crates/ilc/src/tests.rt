@@ -94,6 +94,15 @@ fn all_usage(rt: &impl Abort, alloc: Global, cases: &[(&str, &str)]) -> Result<(
     Ok(())
 }
 
+/// The program that is built of each of these bodies ends with a status.
+fn all_end(rt: &impl Abort, alloc: Global, cases: &[(&[u8], u8)]) -> Result<(), Fail> {
+    for (body, status) in cases {
+        let found = built_and_run(alloc, body)?;
+        assert!(rt; found == *status, "{found} for {status}");
+    }
+    Ok(())
+}
+
 /// Each of these bodies gives a status and its line.
 fn all_refused(
     rt: &impl Abort,
@@ -137,19 +146,42 @@ fn a_constant_is_the_status(rt: HostRuntime) -> Result<(), Fail> {
 /// Each form of the load of a constant; the status is the low byte of the number.
 #[test]
 fn low_bytes(rt: HostRuntime) -> Result<(), Fail> {
-    let alloc = rt.alloc();
-    assert_eq!(rt; built_and_run(alloc, b"\x0A\x15\x2A")?, 255);
-    assert_eq!(rt; built_and_run(alloc, b"\x0A\x16\x2A")?, 0);
-    assert_eq!(rt; built_and_run(alloc, b"\x0A\x1E\x2A")?, 8);
-    assert_eq!(rt; built_and_run(alloc, b"\x0E\x1F\x80\x2A")?, 128);
-    assert_eq!(rt; built_and_run(alloc, b"\x1A\x20\xFF\xFF\xFF\x7F\x2A")?, 255);
-    assert_eq!(rt; built_and_run(alloc, b"\x1A\x20\x00\x00\x00\x80\x2A")?, 0);
-    assert_eq!(rt; built_and_run(alloc, b"\x1A\x20\x39\x30\x00\x00\x2A")?, 57);
-    Ok(())
+    all_end(
+        &rt,
+        rt.alloc(),
+        &[
+            (b"\x0A\x15\x2A", 255),
+            (b"\x0A\x16\x2A", 0),
+            (b"\x0A\x1E\x2A", 8),
+            (b"\x0E\x1F\x80\x2A", 128),
+            (b"\x1A\x20\xFF\xFF\xFF\x7F\x2A", 255),
+            (b"\x1A\x20\x00\x00\x00\x80\x2A", 0),
+            (b"\x1A\x20\x39\x30\x00\x00\x2A", 57),
+        ],
+    )
+}
+
+/// The greatest number plus 1, 2 - 1, 1 - 2, then 7 times 7 by `nop`, `pop`, `dup` and `mul`, and eight ones added up.
+#[test]
+fn computed_numbers(rt: HostRuntime) -> Result<(), Fail> {
+    all_end(
+        &rt,
+        rt.alloc(),
+        &[
+            (b"\x22\x20\xFF\xFF\xFF\x7F\x17\x58\x2A", 0),
+            (b"\x12\x18\x17\x59\x2A", 1),
+            (b"\x12\x17\x18\x59\x2A", 255),
+            (b"\x1E\x00\x1D\x18\x26\x25\x5A\x2A", 49),
+            (
+                b"\x42\x17\x17\x17\x17\x17\x17\x17\x17\x58\x58\x58\x58\x58\x58\x58\x2A",
+                8,
+            ),
+        ],
+    )
 }
 
 #[test]
-fn refused_bodies(rt: HostRuntime) -> Result<(), Fail> {
+fn refused_headers(rt: HostRuntime) -> Result<(), Fail> {
     all_refused(
         &rt,
         rt.alloc(),
@@ -159,27 +191,61 @@ fn refused_bodies(rt: HostRuntime) -> Result<(), Fail> {
             (b"\x0E\x1F\x2A", "ilc: 9 BadHeader F 3\n"),
             (b"\x0E\x1F\x2A\x2A\x00", "ilc: 9 BadHeader F 4\n"),
         ],
-    )?;
+    )
+}
+
+/// An unknown opcode, a constant that is cut, no return, and a return before the end, which comes before what isn't
+/// verified.
+#[test]
+fn refused_code(rt: HostRuntime) -> Result<(), Fail> {
     all_refused(
         &rt,
         rt.alloc(),
         69,
         &[
             (
-                b"\x06\x2A",
+                b"\x0A\x24\x2A",
                 "ilc: 24 OpcodeOutside [body]Body::Main()->System.Int32 0\n",
+            ),
+            (
+                b"\x0E\x17\x20\x2A",
+                "ilc: 24 OpcodeOutside [body]Body::Main()->System.Int32 1\n",
             ),
             (
                 b"\x0A\x1F\x2A",
                 "ilc: 24 OpcodeOutside [body]Body::Main()->System.Int32 2\n",
             ),
             (
-                b"\x0E\x17\x17\x2A",
-                "ilc: 24 OpcodeOutside [body]Body::Main()->System.Int32 1\n",
+                b"\x0E\x58\x2A\x2A",
+                "ilc: 24 OpcodeOutside [body]Body::Main()->System.Int32 2\n",
+            ),
+        ],
+    )
+}
+
+/// No result, one operand for two, two values at the return, and nine on the stack.
+#[test]
+fn unverified_code(rt: HostRuntime) -> Result<(), Fail> {
+    all_refused(
+        &rt,
+        rt.alloc(),
+        70,
+        &[
+            (
+                b"\x06\x2A",
+                "ilc: 20 Unverified [body]Body::Main()->System.Int32 0\n",
             ),
             (
-                b"\x0E\x17\x2A\x2A",
-                "ilc: 24 OpcodeOutside [body]Body::Main()->System.Int32 2\n",
+                b"\x0E\x17\x58\x2A",
+                "ilc: 20 Unverified [body]Body::Main()->System.Int32 1\n",
+            ),
+            (
+                b"\x0E\x17\x17\x2A",
+                "ilc: 20 Unverified [body]Body::Main()->System.Int32 2\n",
+            ),
+            (
+                b"\x4A\x17\x17\x17\x17\x17\x17\x17\x17\x17\x58\x58\x58\x58\x58\x58\x58\x58\x2A",
+                "ilc: 20 Unverified [body]Body::Main()->System.Int32 9\n",
             ),
         ],
     )
