@@ -125,10 +125,8 @@ fn fixed_size(form: OperandForm) -> u32
         OperandForm::Absent => 0,
         OperandForm::Unsigned8 | OperandForm::Signed8 | OperandForm::Target8 => 1,
         OperandForm::Unsigned16 => 2,
-        OperandForm::Signed32
-        | OperandForm::Token
-        | OperandForm::Target32
-        | OperandForm::Targets => 4,
+        OperandForm::Signed32 | OperandForm::Token | OperandForm::Target32 | OperandForm::Targets =>
+            4,
         OperandForm::Signed64 => 8,
     }
 }
@@ -179,11 +177,7 @@ fn target(next: u32, distance: i64) -> u32
 }
 
 /// The targets at the front of the bytes, with their number before them.
-fn targets_operand(
-    alloc: Global,
-    at: u32,
-    bytes: &[u8],
-) -> Result<Option<(Operand, u32)>, Memory>
+fn targets_operand(alloc: Global, at: u32, bytes: &[u8]) -> Result<Option<(Operand, u32)>, Memory>
     requires { at + length bytes.now < 2 ^ 31 }
     ensures value { IfOk result (λ found. found ≡ operand_of TargetsForm at bytes.now) }
     ensures within { IfOk result (λ found. IfSome found (λ operand. operand.1 ≤ length bytes.now)) }
