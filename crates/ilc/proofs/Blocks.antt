@@ -1,5 +1,5 @@
 -- What the code of each operation does to the evaluation stack in memory.
-use Rattle.std.proofs.Common.{◌≡◌, ◌∙◌, ◌≢◌, ℕ, zero, suc, ◌+◌, ◌-◌, ◌*◌, ◌%◌, ◌^◌, ◌<◌, ◌≤◌, ℤ, pos, negsuc, ◌+ℤ◌, ◌-ℤ◌, ◌*ℤ◌, List, [], ◌∷◌, ◌++◌, length, take, drop, arith, refl, ap, sym, subst, Option, Some, None, slice_get, slice_index, slice_set, FitsSigned}
+use Rattle.std.proofs.Common.{◌≡◌, ◌∙◌, ◌≢◌, ◌⊎◌, inl, inr, ℕ, zero, suc, ◌+◌, ◌-◌, ◌*◌, ◌%◌, ◌^◌, ◌<◌, ◌≤◌, ℤ, pos, negsuc, ◌+ℤ◌, ◌-ℤ◌, ◌*ℤ◌, List, [], ◌∷◌, ◌++◌, length, take, drop, arith, refl, ap, sym, subst, Option, Some, None, slice_get, slice_index, slice_set, FitsSigned}
 use Rattle.std.proofs.lemmas.Int.{ints}
 use Rattle.std.specs.Int.{w32}
 use Rattle.byteorder.specs.Endian.{little_bytes}
@@ -32,18 +32,42 @@ pub record OnStack (front : List ℕ) (code : List Ins) (text slots : Segment) (
   pub memory : HasSlots text slots
   pub holds : Holds stack slots.bytes
 
--- In 1 to 24 steps, all of them at instructions of the code, the machine comes to another place and stack.
+-- the machine stands at an instruction of the code
+abbrev pub IsInCode : List ℕ → List Ins → Segment → Run MachineState Trap → Type 0
+IsInCode front code text (Running m streams) = (k : ℕ) × (k < length code) × (m.pc ≡ text.at + length front + 4 * k)
+IsInCode front code text _ = ⊥
+
+-- So many steps lead from one moment of a run to another, each of them at an instruction of the code.
+pub record Walks (front : List ℕ) (code : List Ins) (text : Segment) (count : ℕ) (from to : Run MachineState Trap) : Type 0 where
+  pub runs : after machine_step count from ≡ to
+  pub inside : (j : ℕ) → j < count → IsInCode front code text (after machine_step j from)
+
+-- In 1 to 24 steps the machine comes to another place and stack.
 pub record Went (front : List ℕ) (code : List Ins) (text : Segment) (place : ℕ) (stack : List ℤ) (m : MachineState) (streams : Streams) : Type 0 where
   pub count : ℕ
   pub few : count < 24
   pub machine : MachineState
   pub slots : Segment
-  pub runs : after machine_step (suc count) (Running m streams) ≡ Running machine streams
+  pub walks : Walks front code text (suc count) (Running m streams) (Running machine streams)
   pub on : OnStack front code text slots place stack machine
 
--- one more step of a run
-then : {m : MachineState} {streams : Streams} {run : Run MachineState Trap} (n : ℕ) (start : Run MachineState Trap) → after machine_step n start ≡ Running m streams → machine_step m streams ≡ run → after machine_step (suc n) start ≡ run
-then n start so_far step = ap (one_more machine_step) so_far ∙ step
+stays : (front : List ℕ) (code : List Ins) (text : Segment) (from : Run MachineState Trap) → Walks front code text 0 from from
+stays front code text from = record { runs = refl; inside = λ j h. absurd (let less : j < 0 = h in omega (arith, less)) }
+
+up_to : (j count : ℕ) → j < suc count → (j < count) ⊎ (j ≡ count)
+up_to j count h = grind arith
+
+-- one more step
+walks_on : {front : List ℕ} {code : List Ins} {text slots : Segment} {k count : ℕ} {m : MachineState} {from run : Run MachineState Trap} (streams : Streams) (ins : Ins) → Walks front code text count from (Running m streams) → StandsAt front code text slots k m → slice_get code k ≡ Some ins → machine_step m streams ≡ run → Walks front code text (suc count) from run
+walks_on {front} {code} {text} {slots} {k} {count} {m} {from} {run} streams ins so_far at there step =
+    let here : IsInCode front code text (Running m streams) = (k, within code k ins there, at.pc) in
+    record {
+      runs = ap (one_more machine_step) so_far.runs ∙ step;
+      inside = λ j h. elim (up_to j count h) [
+        | inl less ↦ so_far.inside j less
+        | inr e ↦ subst (λ n. IsInCode front code text (after machine_step n from)) (sym e) (subst (IsInCode front code text) (sym so_far.runs) here)
+      ];
+    }
 
 -- ---- single instructions
 
@@ -122,7 +146,7 @@ went_nowhere {front} {code} {text} {slots} {k} {m} stack stack' streams on block
       few = omega arith;
       machine = m';
       slots = slots;
-      runs = step;
+      walks = walks_on streams no_operation (stays front code text (Running m streams)) on.at block.0 step;
       on = record {
         at = stands_next front code text slots slots k m m' on.at (within code k no_operation block.0) refl on.at.memory;
         has = record { count = on.has.count; x0 = on.has.x0 };
@@ -151,7 +175,9 @@ went_constant {front} {code} {text} {slots} {k} {m} stack n streams fits h on bl
       few = omega arith;
       machine = s.machine;
       slots = with_slot (length stack) (low_bits 64 n) slots;
-      runs = then 3 (Running m streams) (then 2 (Running m streams) (then 1 (Running m streams) g1.steps g2.steps) a.given.steps) s.steps;
+      walks =
+          walks_on streams (store_slot (length stack)) (walks_on streams stack_address (walks_on streams (Addiw 6 6 (lower n)) (walks_on streams (Lui 6 (upper n)) (stays front code text (Running m streams)) on.at block.0 g1.steps) g1.at block.1.0 g2.steps) g2.at block.1.1.0 a.given.steps)
+          a.given.at block.1.1.1.0 s.steps;
       on = record { at = s.at; has = s.has; memory = s.memory; holds = pushed stack n slots.bytes (omega (arith, on.memory.room)) on.holds };
     }
 
@@ -172,7 +198,9 @@ went_duplicate {front} {code} {text} {slots} {k} {m} stack n streams h on block 
       few = omega arith;
       machine = s.machine;
       slots = with_slot d (low_bits 64 n) slots;
-      runs = then 2 (Running m streams) (then 1 (Running m streams) a.given.steps g.steps) s.steps;
+      walks =
+          walks_on streams (store_slot d) (walks_on streams (load_slot 6 (d - 1)) (walks_on streams stack_address (stays front code text (Running m streams)) on.at block.0 a.given.steps) a.given.at block.1.0 g.steps)
+          g.at block.1.1.0 s.steps;
       on = record { at = s.at; has = s.has; memory = s.memory; holds = pushed (n ∷ stack) n slots.bytes (omega (arith, on.memory.room)) on.holds };
     }
 
@@ -229,12 +257,14 @@ went_binary {front} {code} {text} {slots} {k} {m} stack operation a b streams h 
       few = omega arith;
       machine = s.machine;
       slots = with_slot (d - 2) (low_bits 64 c) slots;
-      runs = then 4 (Running m streams) (then 3 (Running m streams) (then 2 (Running m streams) (then 1 (Running m streams) t0.given.steps t1.steps) t2.steps) r.steps) s.steps;
+      walks =
+          walks_on streams (store_slot (d - 2)) (walks_on streams (binary_instruction operation) (walks_on streams (load_slot 7 (d - 1)) (walks_on streams (load_slot 6 (d - 2)) (walks_on streams stack_address (stays front code text (Running m streams)) on.at block.0 t0.given.steps) t0.given.at block.1.0 t1.steps) t1.at block.1.1.0 t2.steps) t2.at block.1.1.1.0 r.steps)
+          r.at block.1.1.1.1.0 s.steps;
       on = record { at = s.at; has = s.has; memory = s.memory; holds = holds };
     }
 
 -- The end of the program, by four steps.
-pub went_home : {front : List ℕ} {code : List Ins} {text slots : Segment} {k : ℕ} {m : MachineState} (n : ℤ) (streams : Streams) → OnStack front code text slots k (n ∷ []) m → BlockAt code k (operation_code 1 Return) → after machine_step 4 (Running m streams) ≡ Ended (low_bits 8 n) streams
+pub went_home : {front : List ℕ} {code : List Ins} {text slots : Segment} {k : ℕ} {m : MachineState} (n : ℤ) (streams : Streams) → OnStack front code text slots k (n ∷ []) m → BlockAt code k (operation_code 1 Return) → Walks front code text 4 (Running m streams) (Ended (low_bits 8 n) streams)
 went_home {front} {code} {text} {slots} {k} {m} n streams on block =
     let t0 : Addressed front code text slots k m streams = addressed streams on.at on.has block.0 in
     let a0 : Given front code text slots (suc k) 10 (low_bits 64 n) t0.given.machine streams =
@@ -252,4 +282,5 @@ went_home {front} {code} {text} {slots} {k} {m} n streams on block =
     ∙ ap (λ x. answers (request x (register a7.machine 10)) a7.machine streams) number
     ∙ ap (λ x. Ended (x % 256) streams) status
     ∙ ap (λ x. Ended x streams) (low_byte n) in
-    then 3 (Running m streams) (then 2 (Running m streams) (then 1 (Running m streams) t0.given.steps a0.steps) a7.steps) ends
+    walks_on streams Ecall (walks_on streams (Addi 17 0 (pos 93)) (walks_on streams (load_slot 10 0) (walks_on streams stack_address (stays front code text (Running m streams)) on.at block.0 t0.given.steps) t0.given.at block.1.0 a0.steps) a0.at block.1.1.0 a7.steps)
+    a7.at block.1.1.1.0 ends

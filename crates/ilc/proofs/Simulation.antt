@@ -19,7 +19,7 @@ use Rattle.ilc.specs.Bare.{is_return}
 use Rattle.ilc.specs.Cil.{CilState, CilCause, cil_step, Frame, Slot, Int32, instruction_in, on_instruction, performs, result_of}
 use Rattle.ilc.specs.Code.{code_of, code_from, LoadsInt32, operation_code, optional_code, optional_depth}
 use Rattle.ilc.specs.Typing.{takes, depth_behind}
-use Rattle.ilc.proofs.Blocks.{OnStack, Went, went_nowhere, went_constant, went_duplicate, went_binary, went_home}
+use Rattle.ilc.proofs.Blocks.{OnStack, Walks, Went, went_nowhere, went_constant, went_duplicate, went_binary, went_home}
 use Rattle.ilc.proofs.Place.{BlockAt, block_at}
 use Rattle.ilc.proofs.Straight.{Straight, Returns, Goes}
 
@@ -61,10 +61,6 @@ pub alike : (body : Body) (front : List ℕ) (text : Segment) (a : Run CilState 
 alike body front text _ _ (AtInstruction at depth stack rest m streams straight is) = refl
 alike body front text _ _ (AtEnd n streams) = (refl, refl)
 
--- what is moved along two equations
-subst2 : {A B : Type 0} (P : A → B → Type 0) {a a' : A} {b b' : B} → a ≡ a' → b ≡ b' → P a b → P a' b'
-subst2 P {a} {a'} {b} {b'} e f p = subst (λ y. P a' y) f (subst (λ x. P x b) e p)
-
 -- ---- the body's step
 
 found_behind : (done rest : List Instr) (i : Instr) → AreBefore i.at done → find (λ j. nat_eq j.at i.at) (done ++ i ∷ rest) ≡ Some i
@@ -92,9 +88,14 @@ one_more_before at (j ∷ instrs) i h earlier = (earlier.0, one_more_before at i
 code_of_first : (depth : ℕ) (i : Instr) (operation : Operation) (rest : List Instr) → operation_of i.op i.operand ≡ Some operation → code_from depth (i ∷ rest) ≡ operation_code depth operation ++ code_from (depth_behind depth operation) rest
 code_of_first depth i operation rest is = ap (λ o. optional_code depth o ++ code_from (optional_depth depth o) rest) is
 
--- In 1 to 24 steps of the machine the two come to states that belong together.
-abbrev pub Follows : Body → List ℕ → Segment → Run CilState CilCause → MachineState → Streams → Type 0
-Follows body front text run m streams = (count : ℕ) × (count < 24) × Related body front text run (after machine_step (suc count) (Running m streams))
+-- In 1 to 24 steps of the machine, all of them at instructions of the code, the two come to states that belong
+-- together.
+pub record Follows (body : Body) (front : List ℕ) (text : Segment) (run : Run CilState CilCause) (m : MachineState) (streams : Streams) : Type 0 where
+  pub count : ℕ
+  pub few : count < 24
+  pub to : Run MachineState Trap
+  pub walks : Walks front (code_of body.code) text (suc count) (Running m streams) to
+  pub related : Related body front text run to
 
 -- the block of the first instruction
 block_of : (body : Body) (front : List ℕ) (text : Segment) (depth : ℕ) (stack : List ℤ) (i : Instr) (operation : Operation) (rest : List Instr) (m : MachineState) (is : IsAt body front text i.at depth stack (i ∷ rest) m) → operation_of i.op i.operand ≡ Some operation → BlockAt (code_of body.code) (length is.before) (operation_code (length stack) operation)
@@ -121,23 +122,27 @@ follows body front text depth place stack stack' i operation rest m streams is d
       code = is.code ∙ ap (λ c. is.before ++ c) (code_of_first depth i operation rest does) ∙ sym (append_assoc is.before (operation_code depth operation) (code_from (depth_behind depth operation) rest));
       slots = went.slots;
       on = subst (λ k. OnStack front (code_of body.code) text went.slots k stack' went.machine) place_is went.on;
-    } in (
-      went.count,
-      went.few,
-      subst2 (Related body front text) (sym step) (sym went.runs) (AtInstruction i.next (depth_behind depth operation) stack' rest went.machine streams straight next),
-    )
+    } in
+    record {
+      count = went.count;
+      few = went.few;
+      to = Running went.machine streams;
+      walks = went.walks;
+      related = subst (λ run. Related body front text run (Running went.machine streams)) (sym step) (AtInstruction i.next (depth_behind depth operation) stack' rest went.machine streams straight next);
+    }
 
 -- ---- each operation
 
 follows_return : (body : Body) (front : List ℕ) (text : Segment) (stack : List ℤ) (i : Instr) (m : MachineState) (streams : Streams) → IsAt body front text i.at 1 stack (i ∷ []) m → operation_of i.op i.operand ≡ Some Return → Follows body front text (cil_step body (state_at i.at stack) streams) m streams
 follows_return body front text [] i m streams is does = absurd (let h : 0 ≡ 1 = is.size in omega (arith, h))
-follows_return body front text (n ∷ []) i m streams is does = (
-  3,
-  omega arith,
-  subst2 (Related body front text) (sym (performed body is.done [] i Return (n ∷ []) streams is.split is.earlier does))
-      (sym (went_home n streams is.on (block_of body front text 1 (n ∷ []) i Return [] m is does)))
-      (AtEnd n streams),
-)
+follows_return body front text (n ∷ []) i m streams is does =
+    record {
+      count = 3;
+      few = omega arith;
+      to = Ended (low_bits 8 n) streams;
+      walks = went_home n streams is.on (block_of body front text 1 (n ∷ []) i Return [] m is does);
+      related = subst (λ run. Related body front text run (Ended (low_bits 8 n) streams)) (sym (performed body is.done [] i Return (n ∷ []) streams is.split is.earlier does)) (AtEnd n streams);
+    }
 follows_return body front text (n ∷ n' ∷ stack) i m streams is does = absurd (let h : suc (suc (length stack)) ≡ 1 = is.size in omega (arith, h))
 
 follows_duplicate : (body : Body) (front : List ℕ) (text : Segment) (depth : ℕ) (stack : List ℤ) (i : Instr) (rest : List Instr) (m : MachineState) (streams : Streams) → IsAt body front text i.at depth stack (i ∷ rest) m → operation_of i.op i.operand ≡ Some Duplicate → 1 ≤ depth → depth ≤ 8 → i.at < i.next → Straight 8 (depth_behind depth Duplicate) i.next rest → Follows body front text (cil_step body (state_at i.at stack) streams) m streams
@@ -174,18 +179,17 @@ follows_operation body front text depth stack i Discard rest m streams is does g
 follows_operation body front text depth stack i (Binary operation) rest m streams is does goes loads some few later straight = follows_binary body front text depth stack i operation rest m streams is does some few later straight
 follows_operation body front text depth stack i Return rest m streams is does goes loads some few later straight = cc
 
-follows_straight : (body : Body) (front : List ℕ) (text : Segment) (at depth : ℕ) (stack : List ℤ) (rest : List Instr) (m : MachineState) (streams : Streams) → Straight 8 depth at rest → IsAt body front text at depth stack rest m → Follows body front text (cil_step body (state_at at stack) streams) m streams
+-- From where the body and the machine stand together, one step of the body is 1 to 24 steps of the machine.
+pub follows_straight : (body : Body) (front : List ℕ) (text : Segment) (at depth : ℕ) (stack : List ℤ) (rest : List Instr) (m : MachineState) (streams : Streams) → Straight 8 depth at rest → IsAt body front text at depth stack rest m → Follows body front text (cil_step body (state_at at stack) streams) m streams
 follows_straight body front text _ _ stack _ m streams (Returns i does) is = follows_return body front text stack i m streams is does
 follows_straight body front text _ _ stack _ m streams (Goes depth i operation rest does goes loads some few later straight) is = follows_operation body front text depth stack i operation rest m streams is does goes loads some few later straight
 
 -- From related states, one step of the body is 1 to 24 steps of the machine to related states.
-pub goes_within : (body : Body) (front : List ℕ) (text : Segment) (a : Run CilState CilCause) (b : Run MachineState Trap) → Related body front text a b → (count : ℕ) × (count < 24) × Related body front text (one_more (cil_step body) a) (after machine_step (suc count) b)
-goes_within body front text _ _ (AtInstruction at depth stack rest m streams straight is) = follows_straight body front text at depth stack rest m streams straight is
-goes_within body front text _ _ (AtEnd n streams) = (0, omega arith, AtEnd n streams)
+pub goes : (body : Body) (front : List ℕ) (text : Segment) (a : Run CilState CilCause) (b : Run MachineState Trap) → Related body front text a b → (count : ℕ) × Related body front text (one_more (cil_step body) a) (after machine_step (suc count) b)
+goes body front text _ _ (AtInstruction at depth stack rest m streams straight is) =
+    let f : Follows body front text (cil_step body (state_at at stack) streams) m streams = follows_straight body front text at depth stack rest m streams straight is in
+    (f.count, subst (Related body front text (cil_step body (state_at at stack) streams)) (sym f.walks.runs) f.related)
+goes body front text _ _ (AtEnd n streams) = (0, AtEnd n streams)
 
 pub simulates : (body : Body) (front : List ℕ) (text : Segment) → Simulates (cil_step body) machine_step (Related body front text)
-simulates body front text =
-    record {
-      alike = alike body front text;
-      goes = λ a b related. let went = goes_within body front text a b related in (went.0, went.2);
-    }
+simulates body front text = record { alike = alike body front text; goes = goes body front text }
