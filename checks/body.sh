@@ -1,14 +1,17 @@
 #!/usr/bin/env bash
-# Builds bodies with each form of `ldc.i4` by the built program, and compares what `ilc run` answers with the low
-# byte of the number and with what qemu-riscv64 answers of the same file; looks at the headers by readelf.
+# Builds bodies with each form of `ldc.i4`, and bodies that compute by `add`, `sub` and `mul` with `dup`, `pop` and
+# `nop`, by the built program, and compares what `ilc run` answers with the low byte of the result and with what
+# qemu-riscv64 answers of the same file; looks at the headers by readelf.
 set -u
 cd "$(dirname "$0")/.." || exit 2
 work=$(mktemp -d) || exit 2
 trap 'rm -rf "$work"' EXIT
 failed=0
 
-# a body and the low byte of its constant, as a script of whole numbers computes them
+# a body and the low byte of its result, as a script of whole numbers computes them
 python3 - >"$work/table" <<'P' || exit 1
+import random
+
 def tiny(code):
     return bytes([len(code) * 4 + 2]) + code
 rows = []
@@ -18,6 +21,46 @@ for n in (-128, -1, 0, 42, 127):
     rows.append((bytes([0x1F]) + n.to_bytes(1, "little", signed=True) + b"\x2A", n))
 for n in (-2**31, -2**31 + 255, -4096, -2049, -2048, -1, 0, 255, 256, 2047, 2048, 2049, 4095, 4096, 0x7FFFF7FF, 0x7FFFF800, 2**31 - 256, 2**31 - 1):
     rows.append((bytes([0x20]) + n.to_bytes(4, "little", signed=True) + b"\x2A", n))
+
+# a body of these instructions, each a number to load or a name, and its result by a stack of 32-bit numbers
+OPCODES = {"nop": 0x00, "dup": 0x25, "pop": 0x26, "ret": 0x2A, "add": 0x58, "sub": 0x59, "mul": 0x5A}
+def computing(*instructions):
+    code, stack = b"", []
+    for instruction in (*instructions, "ret"):
+        if isinstance(instruction, int):
+            code += b"\x20" + instruction.to_bytes(4, "little", signed=True)
+            stack.append(instruction)
+            continue
+        code += bytes([OPCODES[instruction]])
+        if instruction == "dup":
+            stack.append(stack[-1])
+        elif instruction == "pop":
+            stack.pop()
+        elif instruction in ("add", "sub", "mul"):
+            second, first = stack.pop(), stack.pop()
+            result = {"add": first + second, "sub": first - second, "mul": first * second}[instruction]
+            stack.append((result + 2**31) % 2**32 - 2**31)
+        assert len(stack) <= 8
+    assert len(stack) == 1 and len(code) <= 63
+    rows.append((code, stack[0]))
+
+EXTREMES = (-2**31, -2**31 + 1, -65536, -1, 0, 1, 65535, 65536, 2**31 - 1)
+OPERATIONS = ("add", "sub", "mul")
+for first in EXTREMES:
+    computing("nop", first, "dup", "mul", "nop")
+    computing(first, 77, "pop")
+    for second in EXTREMES:
+        for operation in OPERATIONS:
+            computing(first, second, operation)
+
+# eight values on the stack, as many as a body with a tiny header may have, loaded or copied; some are taken off
+chance = random.Random(20)
+def number():
+    return chance.choice((chance.choice(EXTREMES), chance.randrange(-2**31, 2**31)))
+for _ in range(20):
+    computing(*(number() for _ in range(8)), *(chance.choice(OPERATIONS) for _ in range(7)))
+    ones = [number()] + [instruction for _ in range(3) for instruction in (number(), "dup")] + ["dup"]
+    computing(*ones, "pop", chance.choice(OPERATIONS), "dup", "pop", *(chance.choice(OPERATIONS + ("pop",)) for _ in range(5)))
 for code, n in rows:
     print(tiny(code).hex(), n % 256)
 P
