@@ -1,5 +1,5 @@
 -- What instructions do, whichever of their forms they have: ECMA-335 III.3.
-use Rattle.std.specs.Prelude.{ℕ, ◌^◌, ℤ, pos, negsuc, nat_lt, if◌then◌else◌, Option, Some, None}
+use Rattle.std.specs.Prelude.{◌^◌, ℤ, pos, negsuc, nat_lt, if◌then◌else◌, Option, Some, None}
 use Rattle.std.specs.Option.{option_map}
 use Rattle.il_code.specs.declared.body.Operand.{Operand}
 use Rattle.il_code.specs.declared.body.Operand.TheVariants.{Number}

@@ -1,14 +1,13 @@
 -- A body that comes out with status 0 was written.
-use Rattle.std.proofs.Common.{◌≡◌, ◌∙◌, ◌⊎◌, inl, inr, ℕ, List, Option, Some, Result, Ok, Err, ap, sym, subst, arith}
+use Rattle.std.proofs.Common.{◌≡◌, inl, inr, ℕ, List, Ok, subst, arith}
 use Rattle.std.specs.Option.{option_map}
-use Rattle.ilc_io.specs.Store.{Store, stored}
+use Rattle.ilc_io.specs.Store.{stored}
 use Rattle.ilc.specs.Answer.{HasWritten}
-use Rattle.ilc.specs.Cause.{NotBuilt, WriteOutcome, IsBuilt, BodyOutcome, SameFiles, Cause, CommandOutcome}
+use Rattle.ilc.specs.Cause.{NotBuilt, WriteOutcome, BodyOutcome, Cause, CommandOutcome}
 use Rattle.ilc.specs.Line.{status_of}
 use Rattle.ilc.specs.Seen.{StoreSeen, StreamsSeen}
 use Rattle.ilc.specs.Words.{command_of, word_at}
-use Rattle.ilc.specs.declared.command.Command.{Command}
-use Rattle.ilc.specs.declared.command.Command.TheVariants.{Body, Run}
+use Rattle.ilc.specs.declared.command.Command.TheVariants.{Body}
 use Rattle.ilc.specs.declared.outcome.Outcome.{Outcome}
 use Rattle.ilc.specs.declared.outcome.Outcome.TheVariants.{Usage, NoFile, TooLong, BadHeader, OpcodeOutside, Unverified, BadElf, ReadFault, WriteFault, Spent, Trapped, Ended, Written, Memory}
 

@@ -1,24 +1,22 @@
 -- What the code of each operation does to the evaluation stack in memory.
-use Rattle.std.proofs.Common.{◌≡◌, ◌∙◌, ◌≢◌, ◌⊎◌, inl, inr, ℕ, zero, suc, ◌+◌, ◌-◌, ◌*◌, ◌%◌, ◌^◌, ◌<◌, ◌≤◌, ℤ, pos, negsuc, ◌+ℤ◌, ◌-ℤ◌, ◌*ℤ◌, List, [], ◌∷◌, ◌++◌, length, take, drop, arith, refl, ap, sym, subst, Option, Some, None, slice_get, slice_index, slice_set, FitsSigned}
+use Rattle.std.proofs.Common.{◌≡◌, ◌∙◌, ◌≢◌, ◌⊎◌, inl, inr, ℕ, suc, ◌+◌, ◌-◌, ◌*◌, ◌%◌, ◌^◌, ◌<◌, ◌≤◌, ℤ, pos, ◌+ℤ◌, ◌-ℤ◌, ◌*ℤ◌, List, [], ◌∷◌, length, take, drop, arith, refl, ap, sym, subst, Some, slice_get, slice_set, FitsSigned}
 use Rattle.std.proofs.lemmas.Int.{ints}
 use Rattle.std.specs.Int.{w32}
 use Rattle.byteorder.specs.Endian.{little_bytes}
 use Rattle.num_core.specs.Integers.{number, held}
 use Rattle.num_core.specs.declared.kind.Kind.TheVariants.{I4}
 use Rattle.num_core.specs.Run.{Run, Running, Ended, Streams, after, one_more}
-use Rattle.il_code.specs.declared.operation.Operation.{Operation}
-use Rattle.il_code.specs.declared.operation.Operation.TheVariants.{NoOperation, Constant, Duplicate, Discard, Binary, Return}
+use Rattle.il_code.specs.declared.operation.Operation.TheVariants.{Constant, Duplicate, Binary, Return}
 use Rattle.il_code.specs.declared.operation.BinaryOperation.{BinaryOperation}
 use Rattle.il_code.specs.declared.operation.BinaryOperation.TheVariants.{Add, Subtract, Multiply}
 use Rattle.rv_isa.specs.declared.ins.Ins.{Ins}
-use Rattle.rv_isa.specs.declared.ins.Ins.TheVariants.{Lui, Ld, Addi, Addiw, Ecall}
-use Rattle.rv_isa.specs.Operands.{IsImmediate}
+use Rattle.rv_isa.specs.declared.ins.Ins.TheVariants.{Lui, Addi, Addiw, Ecall}
 use Rattle.rv_isa.specs.Instructions.{IsLegal}
 use Rattle.rv_step.specs.Machine.{MachineState, machine_step, effect, gives, register, low_bits, low_word, next_pc, request, answers}
 use Rattle.rv_step.specs.declared.segment.Segment.{Segment}
 use Rattle.rv_step.specs.declared.trap.Trap.{Trap}
 use Rattle.ilc.specs.Cil.{result_of}
-use Rattle.ilc.specs.Code.{upper, lower, slot, stack_address, load_slot, store_slot, binary_instruction, no_operation, operation_code}
+use Rattle.ilc.specs.Code.{upper, lower, stack_address, load_slot, store_slot, binary_instruction, no_operation, operation_code}
 use Rattle.ilc.proofs.Constants.{constant_value, lower_is_immediate}
 use Rattle.ilc.proofs.Place.{StandsAt, BlockAt, steps_at, stands_next, within}
 use Rattle.ilc.proofs.Registers.{HasRegisters, Gets, has_registers, register_same, register_other, low_byte}

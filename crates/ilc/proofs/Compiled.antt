@@ -1,15 +1,14 @@
 -- The file of a body's code does what the body does.
-use Rattle.std.proofs.Common.{◌≡◌, ◌∙◌, ℕ, suc, ◌+◌, ◌-◌, ◌*◌, ◌/◌, ◌%◌, ◌^◌, ◌<◌, ◌≤◌, List, [], ◌∷◌, ◌++◌, length, arith, refl, ap, sym, Result, Ok, Option, Some, None, length-append, replicate, All}
+use Rattle.std.proofs.Common.{◌≡◌, ◌∙◌, ℕ, ◌+◌, ◌*◌, ◌<◌, ◌≤◌, List, [], ◌∷◌, ◌++◌, length, arith, refl, ap, Ok, Option, Some, None, length-append, replicate, All}
 use Rattle.std.proofs.lemmas.List.{length-replicate}
-use Rattle.num_core.specs.Run.{Run, Running, Streams}
+use Rattle.num_core.specs.Run.{Running, Streams}
 use Rattle.num_core.proofs.Runs.{keeps_step}
 use Rattle.il_code.specs.declared.body.Body.{Body}
 use Rattle.il_code.specs.declared.body.Instr.{Instr}
 use Rattle.il_code.specs.declared.operation.Operation.{Operation}
 use Rattle.il_code.specs.declared.operation.Operation.TheVariants.{NoOperation, Constant, Duplicate, Discard, Binary, Return}
 use Rattle.il_code.specs.Operations.{operation_of}
-use Rattle.rv_isa.specs.declared.ins.Ins.{Ins}
-use Rattle.rv_step.specs.Machine.{MachineState, machine_step}
+use Rattle.rv_step.specs.Machine.{machine_step}
 use Rattle.elf_file.specs.declared.layout.ElfLayout.{ElfLayout}
 use Rattle.elf_file.specs.Elf.{loaded, machine_of, headers_of, text_segment, rest_segment, base}
 use Rattle.ilc.specs.Bare.{ReadsBare}
@@ -17,10 +16,8 @@ use Rattle.ilc.specs.Cil.{cil_step, cil_start}
 use Rattle.ilc.specs.Code.{code_of, code_from, IsInt32Instr, text_of, operation_code, optional_code, optional_depth}
 use Rattle.ilc.specs.Implements.{Implements}
 use Rattle.ilc.proofs.Blocks.{OnStack}
-use Rattle.ilc.proofs.Place.{StandsAt, length-text_of}
-use Rattle.ilc.proofs.Registers.{HasRegisters}
-use Rattle.ilc.proofs.Simulation.{IsAt, AtInstruction, Related, simulates}
-use Rattle.ilc.proofs.Slots.{HasSlots}
+use Rattle.ilc.proofs.Place.{length-text_of}
+use Rattle.ilc.proofs.Simulation.{AtInstruction, Related, simulates}
 use Rattle.ilc.proofs.Straight.{straight, few_instructions}
 
 -- ---- the size of the text

@@ -1,21 +1,17 @@
 -- How a machine comes to the instructions of a program's text.
-use Rattle.std.proofs.Common.{◌≡◌, ◌∙◌, ℕ, zero, suc, ◌+◌, ◌-◌, ◌*◌, ◌/◌, ◌%◌, ◌^◌, ◌<◌, ◌≤◌, List, [], ◌∷◌, ◌++◌, length, take, drop, arith, refl, ap, sym, subst, Option, Some, None, slice_get, Bool, true, false, nat_eq, nat_le, nat_lt, ◌&&◌, cond, length-append, append_assoc, eq-eqb}
-use Rattle.std.proofs.Math.Seq.{drop-append-add, take-append-add}
+use Rattle.std.proofs.Common.{◌≡◌, ◌∙◌, ℕ, zero, suc, ◌+◌, ◌-◌, ◌*◌, ◌%◌, ◌^◌, ◌<◌, List, [], ◌∷◌, ◌++◌, length, take, drop, arith, refl, ap, sym, Some, None, slice_get, true, nat_eq, nat_le, ◌&&◌, cond, length-append, append_assoc, eq-eqb}
+use Rattle.std.proofs.Math.Seq.{drop-append-add}
 use Rattle.std.proofs.lemmas.Bool.{le-leb}
 use Rattle.std.proofs.lemmas.List.{length_push}
-use Rattle.std.specs.List.{flat_map}
 use Rattle.std.specs.Option.{option_map}
 use Rattle.byteorder.specs.Endian.{little_bytes, little_number}
 use Rattle.byteorder.specs.Numbers.{little_number-reads_back}
-use Rattle.num_core.specs.Run.{Run, Streams}
+use Rattle.num_core.specs.Run.{Streams}
 use Rattle.rv_isa.specs.declared.ins.Ins.{Ins}
 use Rattle.rv_isa.specs.Instructions.{word_of, IsLegal}
-use Rattle.rv_isa.specs.Parts.{parts_of}
-use Rattle.rv_isa.specs.Rows.{instruction}
 use Rattle.rv_isa.proofs.Rows.{known}
 use Rattle.rv_isa.proofs.WordFits.{word_fits}
 use Rattle.rv_step.specs.declared.segment.Segment.{Segment}
-use Rattle.rv_step.specs.declared.trap.Trap.{Trap}
 use Rattle.rv_step.specs.Machine.{MachineState, bytes_at, covers, fetched, on_word, on_instruction, machine_step, effect, next_pc}
 use Rattle.ilc.specs.Code.{text_of}
 

@@ -1,6 +1,5 @@
 -- The code of a bare body does what the body does.
-use Rattle.std.proofs.Common.{◌≡◌, ◌∙◌, ℕ, zero, suc, ◌+◌, ◌-◌, ◌*◌, ◌<◌, ◌≤◌, ℤ, pos, List, [], ◌∷◌, ◌++◌, length, arith, refl, ap, sym, subst, Option, Some, None, cond, nat_eq, eq-eqb, ne_eqb, find, Bool, true, false, append_assoc, length-append}
-use Rattle.std.proofs.lemmas.List.{length_push}
+use Rattle.std.proofs.Common.{◌≡◌, ◌∙◌, ℕ, suc, ◌+◌, ◌<◌, ◌≤◌, ℤ, List, [], ◌∷◌, ◌++◌, length, arith, refl, ap, sym, subst, Some, cond, nat_eq, eq-eqb, ne_eqb, find, false, append_assoc, length-append}
 use Rattle.num_core.specs.Integers.{number, held}
 use Rattle.num_core.specs.declared.kind.Kind.TheVariants.{I4}
 use Rattle.num_core.specs.Run.{Run, Running, Ended, Streams, Same, after, one_more}
@@ -16,7 +15,7 @@ use Rattle.rv_step.specs.Machine.{MachineState, machine_step, low_bits}
 use Rattle.rv_step.specs.declared.segment.Segment.{Segment}
 use Rattle.rv_step.specs.declared.trap.Trap.{Trap}
 use Rattle.ilc.specs.Bare.{is_return}
-use Rattle.ilc.specs.Cil.{CilState, CilCause, cil_step, Frame, Slot, Int32, instruction_in, on_instruction, performs, result_of}
+use Rattle.ilc.specs.Cil.{CilState, CilCause, cil_step, Frame, Slot, Int32, on_instruction, performs, result_of}
 use Rattle.ilc.specs.Code.{code_of, code_from, LoadsInt32, operation_code, optional_code, optional_depth}
 use Rattle.ilc.specs.Typing.{takes, depth_behind}
 use Rattle.ilc.proofs.Blocks.{OnStack, Walks, Went, went_nowhere, went_constant, went_duplicate, went_binary, went_home}

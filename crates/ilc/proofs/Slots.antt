@@ -1,16 +1,13 @@
 -- The evaluation stack in memory.
-use Rattle.std.proofs.Common.{◌≡◌, ◌∙◌, ℕ, zero, suc, ◌+◌, ◌-◌, ◌*◌, ◌%◌, ◌^◌, ◌<◌, ◌≤◌, ℤ, pos, ◌+ℤ◌, Bool, true, false, cond, ◌&&◌, nat_le, List, [], ◌∷◌, ◌++◌, length, take, drop, Option, Some, None, refl, ap, sym, subst, arith, length-append, append_assoc}
+use Rattle.std.proofs.Common.{◌≡◌, ◌∙◌, ℕ, ◌+◌, ◌-◌, ◌*◌, ◌^◌, ◌<◌, ◌≤◌, ℤ, pos, ◌+ℤ◌, Bool, true, false, cond, ◌&&◌, nat_le, List, [], ◌∷◌, ◌++◌, length, take, drop, Some, None, refl, ap, sym, arith, length-append, append_assoc}
 use Rattle.std.proofs.Math.Seq.{drop-append_seam, take-append_seam}
 use Rattle.std.proofs.lemmas.Bool.{le-leb, lt-leb}
 use Rattle.std.proofs.lemmas.List.{take-append-drop, take-append-le, drop-append-le, length-take-le, length-drop}
 use Rattle.std.specs.Option.{option_map}
 use Rattle.byteorder.specs.Endian.{little_bytes, little_number}
 use Rattle.byteorder.specs.Numbers.{little_number-reads_back, length-bytes_low_first}
-use Rattle.num_core.specs.Run.{Run, Running, Streams}
-use Rattle.rv_isa.specs.declared.ins.Ins.{Ins}
-use Rattle.rv_isa.specs.declared.ins.Ins.TheVariants.{Ld, Sd}
+use Rattle.num_core.specs.Run.{Running, Streams}
 use Rattle.rv_step.specs.declared.segment.Segment.{Segment}
-use Rattle.rv_step.specs.declared.trap.Trap.{Trap}
 use Rattle.rv_step.specs.Machine.{MachineState, register, low_bits, address, bytes_at, with_bytes_at, covers, overwritten, gives, gives_loaded, goes_on_with, next_pc, effect}
 use Rattle.ilc.specs.Code.{slot, load_slot, store_slot}
 

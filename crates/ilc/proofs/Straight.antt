@@ -1,5 +1,5 @@
 -- What is read as a bare body, and verified, can be done instruction by instruction.
-use Rattle.std.proofs.Common.{◌≡◌, ◌∙◌, ℕ, zero, suc, ◌+◌, ◌-◌, ◌<◌, ◌≤◌, All, Bool, true, false, cond, ◌&&◌, List, [], ◌∷◌, length, drop, Option, Some, None, Result, Ok, Err, refl, ap, sym, subst, arith, nat_le, nat_eq}
+use Rattle.std.proofs.Common.{◌≡◌, ◌∙◌, ℕ, zero, suc, ◌+◌, ◌<◌, ◌≤◌, All, Bool, true, false, cond, ◌&&◌, List, [], ◌∷◌, length, drop, Option, Some, None, Result, Ok, Err, refl, ap, sym, subst, arith, nat_le, nat_eq}
 use Rattle.std.proofs.lemmas.Bool.{leb-true}
 use Rattle.std.proofs.lemmas.Bool.Decides.{nat_tests}
 use Rattle.std.specs.Option.{option_map}
@@ -12,7 +12,7 @@ use Rattle.il_code.specs.declared.operation.Operation.{Operation}
 use Rattle.il_code.specs.declared.operation.Operation.TheVariants.{NoOperation, Constant, Duplicate, Discard, Binary, Return}
 use Rattle.il_code.specs.Instructions.{instruction_at, numbered, prefixed, opcode_number, with_opcode, opcode_row, operand_of}
 use Rattle.il_code.specs.Operations.{operation_of}
-use Rattle.ilc.specs.Bare.{bare_code, bare_from, bare_at, bare_with, in_front, is_return, ReadsBare}
+use Rattle.ilc.specs.Bare.{bare_from, bare_at, bare_with, in_front, is_return, ReadsBare}
 use Rattle.ilc.specs.Code.{LoadsInt32, IsInt32Instr}
 use Rattle.ilc.specs.Typing.{takes, depth_behind, can_stand, failing_at, first_failing}
 
@@ -46,6 +46,7 @@ some_bytes (first ∷ rest) number e = by (nat_eq first 0xFE) rest e
     behind : (rest : List ℕ) → prefixed rest ≡ Some number → 0 < number.1
     behind [] e = cc
     behind (second ∷ rest) e = let same : (0xFE00 + second, 2) ≡ number = cc in subst (λ n. 0 < n.1) same (omega arith)
+
     by : (b : Bool) (rest : List ℕ) → cond b (prefixed rest) (Some (first, 1)) ≡ Some number → 0 < number.1
     by true rest e = behind rest e
     by false rest e = let same : (first, 1) ≡ number = cc in subst (λ n. 0 < n.1) same (omega arith)

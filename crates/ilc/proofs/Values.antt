@@ -1,14 +1,11 @@
 -- Numbers of 32 bits in registers of 64, and what is left of them.
-use Rattle.std.proofs.Common.{◌≡◌, ◌∙◌, ℕ, suc, ◌+◌, ◌-◌, ◌*◌, ◌/◌, ◌%◌, ◌^◌, ◌<◌, ℤ, pos, negsuc, ◌+ℤ◌, ◌-ℤ◌, ◌*ℤ◌, refl, ap, sym, arith, unsigned_abs}
+use Rattle.std.proofs.Common.{◌≡◌, ◌∙◌, ◌+◌, ◌-◌, ◌*◌, ◌/◌, ◌%◌, ◌^◌, ◌<◌, ℤ, pos, negsuc, ◌+ℤ◌, ◌-ℤ◌, ◌*ℤ◌, ap, sym, arith, unsigned_abs}
 use Rattle.std.proofs.lemmas.Int.{ints}
 use Rattle.std.specs.Int.{cast_signed, w32, int_wrap, int_rem_euclid}
-use Rattle.il_code.specs.declared.operation.BinaryOperation.{BinaryOperation}
-use Rattle.il_code.specs.declared.operation.BinaryOperation.TheVariants.{Add, Subtract, Multiply}
-use Rattle.num_core.specs.Integers.{number, held}
+use Rattle.num_core.specs.Integers.{held}
 use Rattle.num_core.specs.declared.kind.Kind.TheVariants.{I4}
 use Rattle.num_core.proofs.WrapLaws.{int_wrap-pos, int_wrap-is, int_wrap-same, int_wrap-sum, int_wrap-difference, int_wrap-product}
 use Rattle.rv_step.specs.Machine.{low_bits, low_word}
-use Rattle.ilc.specs.Cil.{result_of}
 
 -- what a register of 64 bits can hold
 pub low_bits-small : (z : ℤ) → low_bits 64 z < 2 ^ 64

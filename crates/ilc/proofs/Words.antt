@@ -1,5 +1,5 @@
 -- What the reading of a word leads to.
-use Rattle.std.proofs.Common.{◌≡◌, ◌∙◌, ℕ, ◌+◌, Bool, true, false, List, [], ◌∷◌, codes, Option, Some, None, refl, ap, ◌&&◌, sym}
+use Rattle.std.proofs.Common.{◌≡◌, ◌∙◌, ℕ, ◌+◌, Bool, true, false, List, [], ◌∷◌, codes, Option, Some, refl, ap, sym}
 use Rattle.std.specs.Option.{is_some}
 use Rattle.std.specs.Str.{bytes_eq}
 use Rattle.ilc.specs.Words.{body_words, run_words, step_count, is_name, is_empty}

@@ -1,5 +1,5 @@
 -- What it means that an executable file does what a body does.
-use Rattle.std.specs.Prelude.{◌≡◌, ℕ, List, Result, Ok}
+use Rattle.std.specs.Prelude.{◌≡◌, ℕ, List, Ok}
 use Rattle.num_core.specs.Run.{KeepsStep}
 use Rattle.il_code.specs.declared.body.Body.{Body}
 use Rattle.rv_step.specs.Machine.{MachineState, machine_run}

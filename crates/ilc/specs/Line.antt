@@ -2,7 +2,6 @@
 use Rattle.std.specs.Prelude.{ℕ, false, List, [], ◌∷◌, codes, decimal}
 use Rattle.std.specs.Fmt.{digits}
 use Rattle.std.specs.List.{flat_map}
-use Rattle.rv_step.specs.declared.trap.Trap.{Trap}
 use Rattle.rv_step.specs.declared.trap.Cause.{Cause}
 use Rattle.rv_step.specs.declared.trap.Cause.TheVariants.{Fetch, Load, Store, Illegal, Call}
 use Rattle.ilc.specs.Words.{word_at}

@@ -1,4 +1,4 @@
-use Rattle.std.proofs.Common.{rules, ◌≡◌, ◌∙◌, ◌-◌, ◌<◌, ◌∷◌, ◌++◌, [], ℕ, List, Some, None, length, subst, sym, ap, arith}
+use Rattle.std.proofs.Common.{rules, ◌≡◌, ◌-◌, ◌<◌, ◌∷◌, ◌++◌, [], ℕ, List, length, subst, sym, arith}
 use Rattle.il_code.specs.Listing.{listed, listed_from}
 use Rattle.il_code.specs.declared.body.Instr.{Instr}
 use Rattle.il_code.proofs.Listed.{all_in_front, lists_on, none_stands, all_listed}

@@ -1,4 +1,4 @@
-use Rattle.std.proofs.Common.{rules, ◌≡◌, ◌∙◌, ◌+◌, ◌-◌, ◌*◌, ◌<◌, ◌∷◌, ◌++◌, [], ℕ, List, length, drop, ap, subst, sym, arith}
+use Rattle.std.proofs.Common.{rules, ◌≡◌, ◌∙◌, ◌+◌, ◌-◌, ◌*◌, ◌∷◌, ◌++◌, [], ℕ, List, drop, ap, subst, sym}
 use Rattle.byteorder.specs.Endian.{little_number, twos_complement}
 use Rattle.il_code.specs.Instructions.{target_of, targets_of}
 use Rattle.il_code.proofs.Targets.{next_target}

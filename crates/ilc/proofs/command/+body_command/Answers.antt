@@ -1,5 +1,5 @@
 -- The slices that the two splits give make up the words.
-use Rattle.std.proofs.Common.{◌≡◌, ◌∙◌, ◌∷◌, ap, sym, length, nat_eq, ◌+◌, Some}
+use Rattle.std.proofs.Common.{◌∙◌, ◌∷◌, ap, sym, length, nat_eq, ◌+◌, Some}
 use Rattle.ilc.specs.Words.{body_words}
 use Rattle.ilc.proofs.Words.{words-value, words-name}
 use Rattle.ilc.proofs.command.+body_command.Goals as goal

@@ -1,4 +1,4 @@
-use Rattle.std.proofs.Common.{◌≡◌, ◌∙◌, ◌+◌, ◌<◌, ◌≤◌, length, All, ap, refl, subst, arith}
+use Rattle.std.proofs.Common.{◌∙◌, length, All, ap, refl, subst, arith}
 use Rattle.std.proofs.lemmas.Result.{IfOk-weaker}
 use Rattle.ilc.specs.Code.{code_of, text_of, IsInt32Instr}
 use Rattle.ilc.proofs.Compiled.{implements, short_text}

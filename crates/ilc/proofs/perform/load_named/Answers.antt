@@ -1,4 +1,4 @@
-use Rattle.std.proofs.Common.{◌≡◌, ◌∙◌, ap, sym, subst, refl, Ok, Err, ℕ, List}
+use Rattle.std.proofs.Common.{◌∙◌, ap, sym, subst, refl, Err}
 use Rattle.elf_file.specs.Elf.{loaded, Gives}
 use Rattle.ilc.specs.Cause.{IsRead, elf_limit}
 use Rattle.ilc.specs.Seen.{StoreSeen, store_seen}

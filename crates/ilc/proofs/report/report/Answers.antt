@@ -1,8 +1,8 @@
 -- The pieces are the parts of the line.
-use Rattle.std.proofs.Common.{◌≡◌, ◌∙◌, [], ◌∷◌, ◌++◌, codes, ap, sym, ◌-◌, take, drop, length, arith}
+use Rattle.std.proofs.Common.{◌∙◌, [], ◌∷◌, codes, ap, sym, ◌-◌, drop, arith}
 use Rattle.std.proofs.lemmas.List.{take_all, length-drop}
 use Rattle.std.specs.List.{flat_map}
-use Rattle.ilc.specs.Line.{line_of, body_method, newline}
+use Rattle.ilc.specs.Line.{line_of, newline}
 use Rattle.ilc.proofs.Printing.{printed_as, begun_as, four_parts}
 use Rattle.ilc.proofs.report.report.Goals as goal
 

@@ -1,4 +1,4 @@
-use Rattle.std.proofs.Common.{◌≡◌, ◌≤◌, ◌*◌, drop}
+use Rattle.std.proofs.Common.{◌≡◌, drop}
 use Rattle.ilc.specs.Typing.{first_failing}
 use Rattle.ilc.proofs.typing.first_failing.Given as goal
 
