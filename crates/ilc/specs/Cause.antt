@@ -9,8 +9,8 @@ use Rattle.ilc_io.specs.Store.{Store, size_of, stored, IsPartlyStored}
 use Rattle.il_code.specs.declared.body.Body.{Body as MethodBody}
 use Rattle.il_code.specs.declared.body.Instr.{Instr}
 use Rattle.il_code.specs.Tiny.{tiny_body}
-use Rattle.rv_step.specs.Machine.{MachineState}
-use Rattle.rv_step.specs.Outcomes.{GoesOn, EndsAfter, TrapsWithin, ReadFailsWithin, WriteFailsWithin}
+use Rattle.rv_step.specs.Machine.{MachineState, request}
+use Rattle.rv_step.specs.Outcomes.{Asks, GoesOn, EndsAfter, TrapsWithin, ReadFailsWithin, WriteFailsWithin}
 use Rattle.elf_file.specs.Elf.{loaded}
 use Rattle.ilc.specs.Bare.{bare_code, ReadsBare}
 use Rattle.ilc.specs.Typing.{first_failing}
@@ -159,6 +159,12 @@ CountBreaksOff machine limit before now =
     (steps : ℕ) × (status : ℕ) × (between : StreamsSeen)
     × EndsWithin machine limit steps status before between × BreaksOff (count_line steps) between now
 
+-- the sink that the machine asks to write to has counted a fault: by call 64 with 1 the output, with 2 the error text
+abbrev pub SinkFails : MachineState → StreamsSeen → StreamsSeen → Type 0
+SinkFails machine before now =
+    (Asks machine (request 64 1) × HasRisen before.output_faults now.output_faults)
+    ⊎ (Asks machine (request 64 2) × HasRisen before.error_faults now.error_faults)
+
 -- When each outcome comes of a machine that does at most `limit` steps, and whose steps are counted or not.
 abbrev pub MachineOutcome : MachineState → ℕ → Bool → StreamsSeen → StreamsSeen → Outcome → Type 0
 MachineOutcome machine limit count before now (Ended status) =
@@ -169,8 +175,7 @@ MachineOutcome machine limit count before now ReadFault =
     HasRisen before.input_faults now.input_faults
     × (new : MachineState) × ReadFailsWithin machine limit new before.outside now.outside
 MachineOutcome machine limit count before now WriteFault =
-    ((HasRisen before.output_faults now.output_faults ⊎ HasRisen before.error_faults now.error_faults)
-    × (new : MachineState) × WriteFailsWithin machine limit new before.outside now.outside)
+    ((new : MachineState) × SinkFails new before now × WriteFailsWithin machine limit new before.outside now.outside)
     ⊎ ((count ≡ true) × CountBreaksOff machine limit before now)
 MachineOutcome machine limit count before now _ = ⊥
 
