@@ -14,3 +14,4 @@ pub mod Printing
 pub mod Hex
 pub mod Counted
 pub mod Answers
+pub mod Completeness

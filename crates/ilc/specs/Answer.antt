@@ -2,6 +2,7 @@
 use Rattle.std.specs.Prelude.{◌≡◌, ◌⊎◌, ℕ, List, Option, Some}
 use Rattle.std.specs.Option.{option_map}
 use Rattle.std.specs.FinMap.{get}
+use Rattle.ilc_io.specs.Count.{HasRisen}
 use Rattle.ilc_io.specs.Store.{Store, stored}
 use Rattle.il_code.specs.declared.body.Body.{Body}
 use Rattle.ilc.specs.Bare.{ReadsBare}
@@ -34,3 +35,17 @@ pub record HasWritten (file out : List ℕ) (before now : Option Store) : Type 0
   pub elf : List ℕ
   pub written : now ≡ option_map (stored out elf) before
   pub implements : Implements body elf
+
+-- the store tells that a file has the bytes of a bare body
+pub record HasBare (file : List ℕ) (told : Option Store) : Type 0 where
+  pub store : Store
+  pub tells : told ≡ Some store
+  pub bytes : List ℕ
+  pub content : get store file ≡ Some bytes
+  pub body : Body
+  pub reads : ReadsBare bytes body
+
+-- no fault of the store was counted
+abbrev pub NoneCounted : StoreSeen → StoreSeen → Type 0
+NoneCounted before now =
+    (HasRisen before.read_faults now.read_faults → ⊥) × (HasRisen before.write_faults now.write_faults → ⊥)

@@ -22,18 +22,16 @@ pub use top::ilc;
 /// The most bytes that Linux lets a word have.
 const MAX_WORD: usize = 131_072;
 
-/// The status of want of memory.
-const NO_MEMORY: u8 = 75;
-
 fn main(rt: HostRuntime) -> ExitCode {
     let alloc = rt.alloc();
-    let Ok(words) = command_line(&rt, alloc) else {
-        return ExitCode::from(NO_MEMORY);
-    };
     let mut files = HostFiles::new(alloc, &rt);
     let mut input = StreamSource::new(rt.stdin());
     let mut out = StreamSink::new(rt.stdout());
     let mut err = StreamSink::new(rt.stderr());
+    let Ok(words) = command_line(&rt, alloc) else {
+        let _ = report::report(&mut err, &[], &Outcome::Memory);
+        return ExitCode::from(Outcome::Memory.status());
+    };
     ExitCode::from(ilc(
         alloc,
         words.as_slice(),

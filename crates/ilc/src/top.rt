@@ -1,5 +1,5 @@
-ghost use Rattle.std.specs.Prelude.{◌≡◌, ℕ, Ok};
-ghost use Rattle.ilc.specs.Answer.{Answers, HasWritten};
+ghost use Rattle.std.specs.Prelude.{◌≡◌, ◌⊎◌, ℕ, Ok};
+ghost use Rattle.ilc.specs.Answer.{Answers, HasWritten, HasBare, NoneCounted};
 ghost use Rattle.ilc.specs.Seen.{store_seen, streams_seen};
 ghost use Rattle.ilc.specs.Words.{command_of, word_at};
 
@@ -33,6 +33,13 @@ pub fn ilc<F: Files, I: Source, O: Sink, E: Sink>(
     // Where the words are `body FILE -o OUT` and the status is 0, the file that was written does what the body does.
     ensures body { (file out : ℕ) → command_of words.now ≡ Ok (Command.Body file out) → result ≡ 0
         → HasWritten (word_at words.now file) (word_at words.now out) (F.told files.old) (F.told files.new) }
+    // Where FILE has the bytes of a bare body and no fault of the store is counted, it is built, or memory is wanting.
+    ensures complete { (file out : ℕ) → command_of words.now ≡ Ok (Command.Body file out)
+        → HasBare (word_at words.now file) (F.told files.old)
+        → NoneCounted
+        (store_seen (F.told files.old) (F.asked files.old) (F.read_faults files.old) (F.write_faults files.old))
+        (store_seen (F.told files.new) (F.asked files.new) (F.read_faults files.new) (F.write_faults files.new))
+        → (result ≡ 0) ⊎ (result ≡ 75) }
 {
     let outcome = perform(alloc, words, files, input, out, err);
     let _ = report(err, words, &outcome);
