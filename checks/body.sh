@@ -83,6 +83,10 @@ while read -r body expected; do
   fi
 done <"$work/table"
 
+# an executable file takes the place of a longer file
+head -c 100000 /dev/zero >"$work/longer"
+./ilc body "$work/body" -o "$work/longer" && cmp -s "$work/elf" "$work/longer" || { echo "a longer file isn't replaced"; failed=1; }
+
 if [ -n "$readelf" ]; then
   "$readelf" -lh "$work/elf" >"$work/headers" 2>&1
   for wanted in 'ELF64' "little endian" 'EXEC (Executable file)' 'RISC-V' 'Entry point address: *0x100b0' 'Number of program headers: *2' 'LOAD  *0x0*0 0x0*10000 0x0*10000'; do
