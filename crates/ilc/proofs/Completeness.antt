@@ -6,7 +6,7 @@ use Rattle.ilc_io.specs.Count.{HasRisen}
 use Rattle.il_code.specs.Tiny.{tiny_body}
 use Rattle.ilc.specs.Answer.{HasBare, NoneCounted}
 use Rattle.ilc.specs.Bare.{bare_code}
-use Rattle.ilc.specs.Typing.{first_failing}
+use Rattle.ilc.specs.Typing.{first_failing, tiny_max_stack}
 use Rattle.ilc.specs.Cause.{NotBuilt, WriteOutcome, IsRead, BodyOutcome, Cause, CommandOutcome, body_limit}
 use Rattle.ilc.specs.Line.{status_of}
 use Rattle.ilc.specs.Seen.{StoreSeen, StreamsSeen}
@@ -57,14 +57,14 @@ not_refused index file before now (TooLong size) bare none h =
     let above = h.above in
     omega arith
 not_refused index file before now (BadHeader w offset) bare none h =
-    absurd (not_both (tiny_body bare.bytes) bare.reads.code offset bare.reads.header (ap tiny_body (same_bytes file before now bare h.0 h.1) ∙ h.3))
+    absurd (not_both (tiny_body bare.bytes) bare.reads.code offset bare.reads.header (ap tiny_body (same_bytes file before now bare h.0 h.1) ∙ h.2.1))
 not_refused index file before now (OpcodeOutside offset) bare none h =
     absurd (not_both (bare_code bare.reads.code) bare.body.code offset bare.reads.instructions
-    (ap bare_code (its_code file before now bare h.0 h.2 h.1 h.3) ∙ h.4))
+    (ap bare_code (its_code file before now bare h.0 h.2.0 h.1 h.2.1) ∙ h.2.2))
 not_refused index file before now (Unverified offset) bare none h =
-    let instrs : bare.body.code ≡ h.4 =
-    one_value (bare_code bare.reads.code) bare.body.code h.4 bare.reads.instructions (ap bare_code (its_code file before now bare h.0 h.2 h.1 h.3) ∙ h.5) in
-    absurd (none-some offset (sym (ap (λ most. first_failing most 0 bare.body.code) (sym bare.reads.max_stack) ∙ bare.reads.verified) ∙ ap (first_failing 8 0) instrs ∙ h.6))
+    let instrs : bare.body.code ≡ h.2.2.0 =
+    one_value (bare_code bare.reads.code) bare.body.code h.2.2.0 bare.reads.instructions (ap bare_code (its_code file before now bare h.0 h.2.0 h.1 h.2.1) ∙ h.2.2.1) in
+    absurd (none-some offset (sym (ap (λ most. first_failing most 0 bare.body.code) (sym bare.reads.max_stack) ∙ bare.reads.verified) ∙ ap (first_failing tiny_max_stack 0) instrs ∙ h.2.2.2))
 not_refused index file before now (BadElf w p) bare none h = absurd h
 not_refused index file before now ReadFault bare none h = absurd (none h)
 not_refused index file before now WriteFault bare none h = absurd h

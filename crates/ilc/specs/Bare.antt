@@ -7,7 +7,7 @@ use Rattle.il_code.specs.declared.operation.Operation.TheVariants.{Return}
 use Rattle.il_code.specs.Instructions.{instruction_at}
 use Rattle.il_code.specs.Operations.{operation_of}
 use Rattle.il_code.specs.Tiny.{tiny_body}
-use Rattle.ilc.specs.Typing.{IsVerified}
+use Rattle.ilc.specs.Typing.{IsVerified, tiny_max_stack}
 
 -- an instruction in front of those that were read behind it
 abbrev pub in_front : Instr → Result (List Instr) ℕ → Result (List Instr) ℕ
@@ -45,7 +45,7 @@ pub record ReadsBare (bytes : List ℕ) (body : Body) : Type 0 where
   pub header : tiny_body bytes ≡ Ok code
   pub size : length code < 64
   pub instructions : bare_code code ≡ Ok body.code
-  pub max_stack : body.max_stack ≡ 8
+  pub max_stack : body.max_stack ≡ tiny_max_stack
   pub locals : body.locals ≡ 0
   pub clauses : body.clauses ≡ []
   pub verified : IsVerified body

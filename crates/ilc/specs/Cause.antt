@@ -13,7 +13,7 @@ use Rattle.rv_step.specs.Machine.{MachineState, request}
 use Rattle.rv_step.specs.Outcomes.{Asks, GoesOn, EndsAfter, TrapsWithin, ReadFailsWithin, WriteFailsWithin}
 use Rattle.elf_file.specs.Elf.{loaded}
 use Rattle.ilc.specs.Bare.{bare_code, ReadsBare}
-use Rattle.ilc.specs.Typing.{first_failing}
+use Rattle.ilc.specs.Typing.{first_failing, tiny_max_stack}
 use Rattle.ilc.specs.Implements.{Implements}
 use Rattle.ilc.specs.Line.{count_line}
 use Rattle.ilc.specs.Printed.{Prints, BreaksOff}
@@ -65,20 +65,24 @@ outcome_of_read FileMemory index = Memory
 abbrev pub body_limit : ℕ
 body_limit = 16777216
 
--- The outcomes of code that isn't that of a bare body, whose greatest depth is 8. That it is verified is asked of
--- instructions that are all read.
+-- The outcomes of code that isn't that of a bare body. That it is verified is asked of instructions that are all
+-- read.
 abbrev pub NotBareCode : List ℕ → Outcome → Type 0
 NotBareCode code (OpcodeOutside offset) = bare_code code ≡ Err offset
-NotBareCode code (Unverified offset) = (instrs : List Instr) × (bare_code code ≡ Ok instrs) × (first_failing 8 0 instrs ≡ Some offset)
+NotBareCode code (Unverified offset) =
+    (instrs : List Instr) × (bare_code code ≡ Ok instrs) × (first_failing tiny_max_stack 0 instrs ≡ Some offset)
 NotBareCode code Memory = Unit {0}
 NotBareCode code _ = ⊥
+
+-- the code behind the header has the outcome
+abbrev pub CodeGives : List ℕ → Outcome → Type 0
+CodeGives bytes outcome = (code : List ℕ) × (tiny_body bytes ≡ Ok code) × NotBareCode code outcome
 
 -- the outcomes of bytes that are no bare body, in the file that the word at an index names
 abbrev pub NotBare : ℕ → List ℕ → Outcome → Type 0
 NotBare index bytes (BadHeader word offset) = (word ≡ index) × (tiny_body bytes ≡ Err offset)
-NotBare index bytes (OpcodeOutside offset) = (code : List ℕ) × (tiny_body bytes ≡ Ok code) × (bare_code code ≡ Err offset)
-NotBare index bytes (Unverified offset) =
-    (code : List ℕ) × (tiny_body bytes ≡ Ok code) × (instrs : List Instr) × (bare_code code ≡ Ok instrs) × (first_failing 8 0 instrs ≡ Some offset)
+NotBare index bytes (OpcodeOutside offset) = CodeGives bytes (OpcodeOutside offset)
+NotBare index bytes (Unverified offset) = CodeGives bytes (Unverified offset)
 NotBare index bytes Memory = Unit {0}
 NotBare index bytes _ = ⊥
 
@@ -90,18 +94,19 @@ pub record IsBuilt (file elf : List ℕ) (before now : StoreSeen) : Type 0 where
   pub reads : ReadsBare bytes body
   pub implements : Implements body elf
 
+-- the bytes of the file have the outcome
+abbrev pub BytesGive : ℕ → List ℕ → StoreSeen → StoreSeen → Outcome → Type 0
+BytesGive index file before now outcome =
+    (bytes : List ℕ) × IsRead file body_limit bytes before now × NotBare index bytes outcome
+
 -- When each outcome comes of a body that wasn't built. Want of memory may come at any time.
 abbrev pub NotBuilt : ℕ → List ℕ → StoreSeen → StoreSeen → Outcome → Type 0
 NotBuilt index file before now (NoFile word) = (word ≡ index) × IsMissing file before now
 NotBuilt index file before now (TooLong size) = IsTooLong file body_limit size before now
 NotBuilt index file before now ReadFault = HasRisen before.read_faults now.read_faults
-NotBuilt index file before now (BadHeader word offset) =
-    (bytes : List ℕ) × IsRead file body_limit bytes before now × (word ≡ index) × (tiny_body bytes ≡ Err offset)
-NotBuilt index file before now (OpcodeOutside offset) =
-    (bytes : List ℕ) × IsRead file body_limit bytes before now × (code : List ℕ) × (tiny_body bytes ≡ Ok code) × (bare_code code ≡ Err offset)
-NotBuilt index file before now (Unverified offset) =
-    (bytes : List ℕ) × IsRead file body_limit bytes before now × (code : List ℕ) × (tiny_body bytes ≡ Ok code)
-    × (instrs : List Instr) × (bare_code code ≡ Ok instrs) × (first_failing 8 0 instrs ≡ Some offset)
+NotBuilt index file before now (BadHeader word offset) = BytesGive index file before now (BadHeader word offset)
+NotBuilt index file before now (OpcodeOutside offset) = BytesGive index file before now (OpcodeOutside offset)
+NotBuilt index file before now (Unverified offset) = BytesGive index file before now (Unverified offset)
 NotBuilt index file before now Memory = Unit {0}
 NotBuilt index file before now _ = ⊥
 

@@ -40,7 +40,7 @@ no_step streams = Stopped NoStep streams
 abbrev pub goes_on : Instr → List Slot → List Frame → Streams → Run CilState CilCause
 goes_on i stack below streams = Running (record { frames = record { offset = i.next; stack = stack } ∷ below }) streams
 
--- `dup` (III.3.34): the top once more
+-- `dup` (III.3.33): the top once more
 abbrev pub duplicates : Instr → List Slot → List Frame → Streams → Run CilState CilCause
 duplicates i (top ∷ stack) below streams = goes_on i (top ∷ top ∷ stack) below streams
 duplicates i [] below streams = no_step streams
@@ -62,7 +62,7 @@ combines operation i (Int32 b ∷ Int32 a ∷ stack) below streams =
     goes_on i (Int32 (held I4 (result_of operation (number I4 a) (number I4 b))) ∷ stack) below streams
 combines operation i _ below streams = no_step streams
 
--- `ret` (III.3.56): the method that the program begins with ends it, with the low byte of its result
+-- `ret` (III.3.57): the method that the program begins with ends it, with the low byte of its result
 abbrev pub returns : List Slot → List Frame → Streams → Run CilState CilCause
 returns (Int32 n ∷ []) [] streams = Ended (low_bits 8 n) streams
 returns _ _ streams = no_step streams

@@ -7,6 +7,10 @@ use Rattle.il_code.specs.declared.operation.Operation.{Operation}
 use Rattle.il_code.specs.declared.operation.Operation.TheVariants.{NoOperation, Constant, Duplicate, Discard, Binary, Return}
 use Rattle.il_code.specs.Operations.{operation_of}
 
+-- the greatest depth under a tiny header (II.25.4.2)
+abbrev pub tiny_max_stack : ℕ
+tiny_max_stack = 8
+
 -- how many slots an operation takes from the stack
 abbrev pub takes : Operation → ℕ
 takes NoOperation = 0

@@ -1,7 +1,7 @@
 ghost use Rattle.std.specs.Prelude.{◌≡◌, ◌<◌, ◌^◌, [], length, IfOk, IfErr, Ok, None};
 ghost use Rattle.ilc.specs.Bare.{bare_code, is_return as is_return_operation, ReadsBare};
 ghost use Rattle.ilc.specs.Cause.{NotBare, NotBareCode};
-ghost use Rattle.ilc.specs.Typing.{first_failing as first_failing_of};
+ghost use Rattle.ilc.specs.Typing.{first_failing as first_failing_of, tiny_max_stack};
 
 use crate::outcome::Outcome;
 use crate::typing::first_failing;
@@ -28,8 +28,8 @@ pub(crate) fn read_bare(alloc: Global, bytes: &[u8], word: usize) -> Result<Body
 fn read_code(alloc: Global, code: &[u8]) -> Result<Body, Outcome>
     requires { length code.now < 64 }
     ensures code { IfOk result (λ body. bare_code code.now ≡ Ok body.code) }
-    ensures header { IfOk result (λ body. (body.max_stack ≡ 8) × (body.locals ≡ 0) × (body.clauses ≡ [])) }
-    ensures verified { IfOk result (λ body. first_failing_of 8 0 body.code ≡ None) }
+    ensures header { IfOk result (λ body. (body.max_stack ≡ tiny_max_stack) × (body.locals ≡ 0) × (body.clauses ≡ [])) }
+    ensures verified { IfOk result (λ body. first_failing_of tiny_max_stack 0 body.code ≡ None) }
     ensures refused { IfErr result (NotBareCode code.now) }
 {
     let instrs = match instructions(alloc, code) {
