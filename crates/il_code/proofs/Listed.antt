@@ -10,7 +10,7 @@ abbrev pub all_in_front : List Instr → Result (List Instr) ℕ → Result (Lis
 all_in_front done (Ok instrs) = Ok (done ++ instrs)
 all_in_front done (Err offset) = Err offset
 
-one_more_in_front : (done : List Instr) (i : Instr) (rest : Result (List Instr) ℕ) → all_in_front done (in_front i rest) ≡ all_in_front (done ++ i ∷ []) rest
+pub one_more_in_front : (done : List Instr) (i : Instr) (rest : Result (List Instr) ℕ) → all_in_front done (in_front i rest) ≡ all_in_front (done ++ i ∷ []) rest
 one_more_in_front done i (Ok instrs) = ap Ok (sym (append_assoc done (i ∷ []) instrs))
 one_more_in_front done i (Err offset) = refl
 

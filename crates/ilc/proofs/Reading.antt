@@ -1,20 +1,13 @@
 -- How the instructions of a bare body are read, one after another.
-use Rattle.std.proofs.Common.{◌≡◌, ◌≢◌, ◌∙◌, ℕ, suc, ◌+◌, ◌-◌, ◌<◌, ◌≤◌, Bool, true, false, cond, nat_eq, eq-eqb, ne_eqb, List, [], ◌∷◌, ◌++◌, length, Option, Some, None, Result, Ok, Err, refl, ap, sym, arith, append_assoc}
+use Rattle.std.proofs.Common.{◌≡◌, ◌≢◌, ◌∙◌, ℕ, suc, ◌+◌, ◌-◌, ◌<◌, ◌≤◌, Bool, true, false, cond, nat_eq, eq-eqb, ne_eqb, List, [], ◌∷◌, ◌++◌, length, Option, Some, None, Result, Ok, Err, ap, sym, arith}
 use Rattle.std.proofs.lemmas.List.{length_push}
 use Rattle.il_code.specs.declared.body.Instr.{Instr}
 use Rattle.il_code.specs.Instructions.{instruction_at}
 use Rattle.il_code.specs.declared.operation.Operation.{Operation}
 use Rattle.il_code.specs.Operations.{operation_of}
-use Rattle.ilc.specs.Bare.{bare_from, bare_at, bare_with, in_front, is_return}
-
--- those that were read, in front of what comes behind them
-abbrev pub all_in_front : List Instr → Result (List Instr) ℕ → Result (List Instr) ℕ
-all_in_front done (Ok instrs) = Ok (done ++ instrs)
-all_in_front done (Err offset) = Err offset
-
-pub one_more_in_front : (done : List Instr) (i : Instr) (rest : Result (List Instr) ℕ) → all_in_front done (in_front i rest) ≡ all_in_front (done ++ i ∷ []) rest
-one_more_in_front done i (Ok instrs) = ap Ok (sym (append_assoc done (i ∷ []) instrs))
-one_more_in_front done i (Err offset) = refl
+use Rattle.il_code.specs.Listing.{in_front}
+use Rattle.il_code.proofs.Listed.{all_in_front, one_more_in_front}
+use Rattle.ilc.specs.Bare.{bare_from, bare_at, bare_with, is_return}
 
 -- what the next instruction makes of those that were read and of what is left
 pub next_read : (code : List ℕ) (done : List Instr) (at : ℕ) (o : Option Instr) (all : Result (List Instr) ℕ) → length done < length code → o ≡ instruction_at code at → all ≡ all_in_front done (bare_from (length code - length done) code at) → all ≡ all_in_front done (bare_at code (bare_from (length code - (length done + 1)) code) at o)

@@ -12,7 +12,8 @@ use Rattle.il_code.specs.declared.operation.Operation.{Operation}
 use Rattle.il_code.specs.declared.operation.Operation.TheVariants.{NoOperation, Constant, Duplicate, Discard, Binary, Return}
 use Rattle.il_code.specs.Instructions.{instruction_at, numbered, prefixed, opcode_number, with_opcode, opcode_row, operand_of}
 use Rattle.il_code.specs.Operations.{operation_of}
-use Rattle.ilc.specs.Bare.{bare_from, bare_at, bare_with, in_front, is_return, ReadsBare}
+use Rattle.il_code.specs.Listing.{in_front}
+use Rattle.ilc.specs.Bare.{bare_from, bare_at, bare_with, is_return, ReadsBare}
 use Rattle.ilc.specs.Code.{LoadsInt32, IsInt32Instr}
 use Rattle.ilc.specs.Typing.{takes, depth_behind, can_stand, failing_at, first_failing}
 

@@ -5,14 +5,10 @@ use Rattle.il_code.specs.declared.body.Instr.{Instr}
 use Rattle.il_code.specs.declared.operation.Operation.{Operation}
 use Rattle.il_code.specs.declared.operation.Operation.TheVariants.{Return}
 use Rattle.il_code.specs.Instructions.{instruction_at}
+use Rattle.il_code.specs.Listing.{in_front}
 use Rattle.il_code.specs.Operations.{operation_of}
 use Rattle.il_code.specs.Tiny.{tiny_body}
 use Rattle.ilc.specs.Typing.{IsVerified, tiny_max_stack}
-
--- an instruction in front of those that were read behind it
-abbrev pub in_front : Instr → Result (List Instr) ℕ → Result (List Instr) ℕ
-in_front i (Ok instrs) = Ok (i ∷ instrs)
-in_front i (Err offset) = Err offset
 
 abbrev pub is_return : Operation → Bool
 is_return Return = true

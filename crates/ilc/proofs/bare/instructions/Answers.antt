@@ -1,7 +1,8 @@
 use Rattle.std.proofs.Common.{rules, ◌≡◌, ◌∙◌, ◌+◌, ◌-◌, ◌<◌, ◌∷◌, ◌++◌, [], ℕ, List, length, Some, Ok, ap, subst, sym, arith}
 use Rattle.il_code.specs.declared.body.Instr.{Instr}
 use Rattle.ilc.specs.Bare.{bare_code, bare_from, bare_with}
-use Rattle.ilc.proofs.Reading.{all_in_front, nothing_there, something_there, reads_on, read_whole, left_over}
+use Rattle.il_code.proofs.Listed.{all_in_front}
+use Rattle.ilc.proofs.Reading.{nothing_there, something_there, reads_on, read_whole, left_over}
 use Rattle.ilc.proofs.bare.instructions.Goals as goal
 
 pub loop-alloc-preserved : goal.loop-alloc-preserved

@@ -1,6 +1,6 @@
 use Rattle.std.proofs.Common.{◌≡◌, ◌-◌, length}
 use Rattle.ilc.specs.Bare.{bare_code, bare_from}
-use Rattle.ilc.proofs.Reading.{all_in_front}
+use Rattle.il_code.proofs.Listed.{all_in_front}
 use Rattle.ilc.proofs.bare.instructions.Given as goal
 
 -- those that were read, and what is left, make up the code
