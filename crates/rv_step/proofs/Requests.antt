@@ -97,6 +97,7 @@ broke_output m bytes rest error before now some there wrote =
       got_error = [];
       output_begun = wrote.begun;
       error_begun = ([], refl);
+      missing = omega (arith, wrote.missing);
       exchanged = record { taken = nothing_taken rest; output = wrote.wrote; error = nothing_written error };
     }
 
@@ -114,6 +115,7 @@ broke_error m bytes rest output before now some there wrote =
       got_error = wrote.got;
       output_begun = ([], refl);
       error_begun = wrote.begun;
+      missing = omega (arith, wrote.missing);
       exchanged = record { taken = nothing_taken rest; output = nothing_written output; error = wrote.wrote };
     }
 
