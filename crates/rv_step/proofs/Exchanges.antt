@@ -43,9 +43,14 @@ wrote_whole at bytes before now past within wrote =
     let same : take at bytes ≡ bytes = ap (λ n. take n bytes) all ∙ take-length bytes in
     subst (λ xs. Wrote xs before now) same wrote
 
-pub wrote_some : (at : ℕ) (bytes : List ℕ) (before mid now : Option (List ℕ)) → Wrote (take at bytes) before mid → now ≡ mid → WroteSome bytes before now
-wrote_some at bytes before mid now wrote same =
-    record { got = take at bytes; begun = (drop at bytes, sym (take-append-drop at bytes)); wrote = same ∙ wrote }
+pub wrote_some : (at : ℕ) (bytes : List ℕ) (before mid now : Option (List ℕ)) → at < length bytes → Wrote (take at bytes) before mid → now ≡ mid → WroteSome bytes before now
+wrote_some at bytes before mid now more wrote same =
+    record {
+      got = take at bytes;
+      begun = (drop at bytes, sym (take-append-drop at bytes));
+      missing = omega (arith, more, length-take at bytes);
+      wrote = same ∙ wrote;
+    }
 
 -- ---- reading
 

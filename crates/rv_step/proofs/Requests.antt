@@ -100,6 +100,7 @@ broke_output m bytes rest error before now some there wrote =
       got_error = [];
       output_begun = wrote.begun;
       error_begun = ([], refl);
+      missing = omega (arith, wrote.missing);
       exchanged = record { taken = nothing_taken rest; output = wrote.wrote; error = nothing_written error };
     }
 
@@ -117,6 +118,7 @@ broke_error m bytes rest output before now some there wrote =
       got_error = wrote.got;
       output_begun = ([], refl);
       error_begun = wrote.begun;
+      missing = omega (arith, wrote.missing);
       exchanged = record { taken = nothing_taken rest; output = nothing_written output; error = wrote.wrote };
     }
 

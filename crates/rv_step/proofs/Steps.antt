@@ -1,5 +1,5 @@
 -- From what a step does in the midst of a run to what a run has done.
-use Rattle.std.proofs.Common.{◌≡◌, ◌∙◌, ℕ, ◌+◌, ◌-◌, ◌<◌, Bool, true, false, List, [], ◌++◌, length, take, drop, Option, Some, None, Result, Ok, Err, IfSome, ◌⊎◌, inl, inr, unwrap_or, refl, sym, ap, subst, append_assoc, append-nil, add-one, arith}
+use Rattle.std.proofs.Common.{◌≡◌, ◌∙◌, ℕ, ◌+◌, ◌-◌, ◌<◌, Bool, true, false, List, [], ◌++◌, length, take, drop, Option, Some, None, Result, Ok, Err, IfSome, ◌⊎◌, inl, inr, unwrap_or, refl, sym, ap, subst, append_assoc, append-nil, length-append, add-one, arith}
 use Rattle.std.proofs.Math.Seq.{take-append_seam, drop-append_seam}
 use Rattle.std.specs.Option.{option_map}
 use Rattle.num_core.specs.Run.{Run, Running, Ended, Stopped, Streams, Outside, Passes, after, one_more}
@@ -155,6 +155,7 @@ answers_same step step' (Err WriteFault) ended at_end old new before now same a 
       got_error = a.got_error;
       output_begun = a.output_begun;
       error_begun = a.error_begun;
+      missing = a.missing;
       exchanged = a.exchanged;
     }
 
@@ -300,6 +301,7 @@ write_fails old mid new done steps ended before between now lt asks p broken =
       got = got;
       output = ((broken.got_output, refl), continues_after x.output _ _ broken.output_begun);
       error = ((broken.got_error, refl), continues_after x.error _ _ broken.error_begun);
+      missing = omega (arith, broken.missing, length-append x.output broken.got_output, length-append x.error broken.got_error, length-append x.output broken.output, length-append x.error broken.error);
       passes = subst (λ given. Passes given got before now) same_given whole;
     }
 

@@ -1,5 +1,5 @@
 -- How runs of a machine come out: what its steps did, and what the outside has of it.
-use Rattle.std.specs.Prelude.{◌≡◌, ◌≢◌, ◌⊎◌, ℕ, ◌+◌, ◌<◌, List, [], ◌++◌, take, drop, Option, Some}
+use Rattle.std.specs.Prelude.{◌≡◌, ◌≢◌, ◌⊎◌, ℕ, ◌+◌, ◌<◌, List, [], ◌++◌, length, take, drop, Option, Some}
 use Rattle.num_core.specs.Run.{Run, Running, Ended, Stopped, Streams, Outside, Passes}
 use Rattle.rv_isa.specs.declared.ins.Ins.TheVariants.{Ecall}
 use Rattle.rv_isa.specs.Parts.{parts_of}
@@ -75,7 +75,8 @@ abbrev pub Continues : List ℕ → List ℕ → Type 0
 Continues bytes longer = (more : List ℕ) × (longer ≡ bytes ++ more)
 
 -- One of the steps asked to write, and the sink refused. What was written lies between what the run had written
--- before that step and what it has written after it, and `new` is the machine before it.
+-- before that step and what it would have written after it, of which some is missing, and `new` is the machine
+-- before it.
 pub record WriteFailsWithin (old : MachineState) (steps : ℕ) (new : MachineState) (before now : Outside) : Type 0 where
   pub given : List ℕ
   pub streams : Streams
@@ -89,4 +90,5 @@ pub record WriteFailsWithin (old : MachineState) (steps : ℕ) (new : MachineSta
   pub got : Streams
   pub output : Continues streams.output got.output × Continues got.output whole.output
   pub error : Continues streams.error got.error × Continues got.error whole.error
+  pub missing : length got.output + length got.error < length whole.output + length whole.error
   pub passes : Passes given got before now

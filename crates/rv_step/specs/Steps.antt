@@ -1,5 +1,5 @@
 -- What one step of the machine does in the midst of a run, where the input isn't yet known beyond what was read.
-use Rattle.std.specs.Prelude.{◌≡◌, ℕ, Bool, true, List, [], ◌++◌, length, drop, Option, None, Some, Result, Ok, Err, IfSome, IfErr, OnOk, OnErr}
+use Rattle.std.specs.Prelude.{◌≡◌, ℕ, ◌+◌, ◌<◌, Bool, true, List, [], ◌++◌, length, drop, Option, None, Some, Result, Ok, Err, IfSome, IfErr, OnOk, OnErr}
 use Rattle.std.specs.Option.{option_map}
 use Rattle.num_core.specs.Run.{Run, Running, Ended, Stopped, Streams, Outside}
 use Rattle.rv_step.specs.Machine.{MachineState, traps, overwritten, bytes_at, with_bytes_at}
@@ -77,7 +77,7 @@ pub record ReadBreaksOff (step : Streams → Run MachineState Trap) (ended : Boo
   pub not_ended : ended ≡ true → ⊥
   pub exchanged : Exchanges (record nothing { taken = taken }) before now
 
--- the first of the bytes that the step writes were written
+-- the first of the bytes that the step writes were written, and not all
 pub record WriteBreaksOff (step : Streams → Run MachineState Trap) (old new : MachineState) (before now : Outside) : Type 0 where
   pub same_machine : new ≡ old
   pub next : MachineState
@@ -88,6 +88,7 @@ pub record WriteBreaksOff (step : Streams → Run MachineState Trap) (old new : 
   pub got_error : List ℕ
   pub output_begun : Continues got_output output
   pub error_begun : Continues got_error error
+  pub missing : length got_output + length got_error < length output + length error
   pub exchanged : Exchanges (record { taken = []; output = got_output; error = got_error }) before now
 
 -- what a step's answer says of it
@@ -106,13 +107,14 @@ run_fault WriteFault = RunWriteFault
 
 -- ---- reading and writing
 
--- all of the bytes were written, or the first of them
+-- all of the bytes were written, or the first of them and not all
 abbrev pub Wrote : List ℕ → Option (List ℕ) → Option (List ℕ) → Type 0
 Wrote bytes before now = now ≡ option_map (λ written. written ++ bytes) before
 
 pub record WroteSome (bytes : List ℕ) (before now : Option (List ℕ)) : Type 0 where
   pub got : List ℕ
   pub begun : Continues got bytes
+  pub missing : length got < length bytes
   pub wrote : Wrote got before now
 
 -- From a source the bytes `taken` were taken, where `before` and `now` are what it tells.

@@ -13,4 +13,4 @@ loop-done-preserved g c = record {
 }
 
 pub returns-in-Err-clause-some : goal.returns-in-Err-clause-some
-returns-in-Err-clause-some g c = wrote_some _ c.args.bytes.now _ _ _ c.loop-done.invariant.wrote c.in-Err.ensures.refused
+returns-in-Err-clause-some g c = wrote_some _ c.args.bytes.now _ _ _ c.loop-done-test.true c.loop-done.invariant.wrote c.in-Err.ensures.refused
