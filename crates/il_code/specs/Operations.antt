@@ -1,12 +1,12 @@
 -- What instructions do, whichever of their forms they have: ECMA-335 III.3.
-use Rattle.std.specs.Prelude.{◌^◌, ℤ, pos, negsuc, nat_lt, if◌then◌else◌, Option, Some, None}
+use Rattle.std.specs.Prelude.{ℕ, ◌^◌, ℤ, pos, negsuc, nat_lt, if◌then◌else◌, Option, Some, None}
 use Rattle.std.specs.Option.{option_map}
 use Rattle.il_code.specs.declared.body.Operand.{Operand}
-use Rattle.il_code.specs.declared.body.Operand.TheVariants.{Number}
+use Rattle.il_code.specs.declared.body.Operand.TheVariants.{Number, Target}
 use Rattle.il_code.specs.declared.opcode.Op.{Op}
-use Rattle.il_code.specs.declared.opcode.Op.TheVariants.{Nop, LdcI4M1, LdcI4_0, LdcI4_1, LdcI4_2, LdcI4_3, LdcI4_4, LdcI4_5, LdcI4_6, LdcI4_7, LdcI4_8, LdcI4S, LdcI4, Dup, Pop, Ret, Add, Sub, Mul}
+use Rattle.il_code.specs.declared.opcode.Op.TheVariants.{Nop, LdcI4M1, LdcI4_0, LdcI4_1, LdcI4_2, LdcI4_3, LdcI4_4, LdcI4_5, LdcI4_6, LdcI4_7, LdcI4_8, LdcI4S, LdcI4, Dup, Pop, Ret, BrS, BrtrueS, Br, Brtrue, Add, Sub, Mul}
 use Rattle.il_code.specs.declared.operation.Operation.{Operation}
-use Rattle.il_code.specs.declared.operation.Operation.TheVariants.{NoOperation, Constant, Duplicate, Discard, Binary, Return}
+use Rattle.il_code.specs.declared.operation.Operation.TheVariants.{NoOperation, Constant, Duplicate, Discard, Binary, Branch, BranchIfTrue, Return}
 use Rattle.il_code.specs.declared.operation.BinaryOperation.{BinaryOperation}
 
 -- a number that an int32 can be
@@ -18,6 +18,11 @@ int32 (negsuc n) = if nat_lt n (2 ^ 31) then Some (negsuc n) else None
 abbrev pub constant : Operand → Option Operation
 constant (Number n) = option_map Constant (int32 n)
 constant _ = None
+
+-- the offset that stands as the operand
+abbrev pub target : Operand → Option ℕ
+target (Target offset) = Some offset
+target _ = None
 
 abbrev pub operation_of : Op → Operand → Option Operation
 operation_of Nop _ = Some NoOperation
@@ -36,6 +41,10 @@ operation_of LdcI4 operand = constant operand
 operation_of Dup _ = Some Duplicate
 operation_of Pop _ = Some Discard
 operation_of Ret _ = Some Return
+operation_of BrS operand = option_map Branch (target operand)
+operation_of Br operand = option_map Branch (target operand)
+operation_of BrtrueS operand = option_map BranchIfTrue (target operand)
+operation_of Brtrue operand = option_map BranchIfTrue (target operand)
 operation_of Add _ = Some (Binary BinaryOperation.Add)
 operation_of Sub _ = Some (Binary BinaryOperation.Subtract)
 operation_of Mul _ = Some (Binary BinaryOperation.Multiply)

@@ -1,5 +1,5 @@
-ghost use Rattle.std.specs.Prelude.{◌≡◌, ◌<◌, ◌^◌, length, Ok, None, IfOk, IfErr};
-ghost use Rattle.il_code.specs.Listing.{listed, begins_one as begins_one_of, leads_right as leads_right_of, first_astray as first_astray_of, NotListed};
+ghost use Rattle.std.specs.Prelude.{◌≡◌, ◌<◌, ◌≤◌, ◌^◌, length, Ok, None, IfOk, IfErr};
+ghost use Rattle.il_code.specs.Listing.{listed, begins_one as begins_one_of, leads_right as leads_right_of, targets_in, first_astray as first_astray_of, NotListed};
 ghost use Rattle.std.specs.List.{list_all};
 
 use crate::body::{Instr, Operand};
@@ -22,14 +22,16 @@ pub enum CodeFault {
 }
 
 /// The instructions of code, one behind another to its end, each of whose targets is one of them (ECMA-335 III.1.2,
-/// III.1.7).
+/// III.1.7.2).
 ///
 /// `BadOpcode` tells the first offset where no instruction stands whole, and `BadTarget` the first instruction with a
-/// target at which none stands, which is asked where all of them were read.
+/// target at which none stands, which is looked for once all instructions were read.
 pub fn instructions(alloc: Global, code: &[u8]) -> Result<List<Instr>, CodeFault>
     requires { length code.now < 2 ^ 31 }
     ensures code { IfOk result (λ instrs. listed code.now ≡ Ok instrs) }
     ensures targets { IfOk result (λ instrs. first_astray_of instrs ≡ None) }
+    // An instruction has one byte at least.
+    ensures few { IfOk result (λ instrs. length instrs ≤ length code.now) }
     ensures refused { IfErr result (NotListed code.now) }
 {
     let instrs = match list(alloc, code) {
@@ -46,6 +48,7 @@ pub fn instructions(alloc: Global, code: &[u8]) -> Result<List<Instr>, CodeFault
 fn list(alloc: Global, code: &[u8]) -> Result<List<Instr>, CodeFault>
     requires { length code.now < 2 ^ 31 }
     ensures code { IfOk result (λ instrs. listed code.now ≡ Ok instrs) }
+    ensures few { IfOk result (λ instrs. length instrs ≤ length code.now) }
     ensures refused { IfErr result (NotListed code.now) }
 {
     let mut instrs = List::new(alloc);
@@ -84,7 +87,14 @@ fn first_astray(instrs: &[Instr]) -> Option<u32>
 fn leads_right(instrs: &[Instr], instr: &Instr) -> bool
     ensures { result ≡ leads_right_of instrs.now instr.now }
 {
-    match &instr.operand {
+    targets_begin(instrs, &instr.operand)
+}
+
+/// Whether one of the instructions stands at each target of an operand.
+pub fn targets_begin(instrs: &[Instr], operand: &Operand) -> bool
+    ensures { result ≡ list_all (begins_one_of instrs.now) (targets_in operand.now) }
+{
+    match operand {
         Operand::Target(offset) => begins_one(instrs, *offset),
         Operand::Targets(offsets) => all_begin(instrs, offsets.as_slice()),
         Operand::Nothing | Operand::Number(_) | Operand::Token(_) => true,
@@ -99,7 +109,7 @@ fn all_begin(instrs: &[Instr], offsets: &[u32]) -> bool
 }
 
 /// Whether one of the instructions stands at the offset.
-fn begins_one(instrs: &[Instr], offset: u32) -> bool
+pub fn begins_one(instrs: &[Instr], offset: u32) -> bool
     ensures { result ≡ begins_one_of instrs.now offset }
 {
     instrs.iter().any(|instr| instr.at == offset)

@@ -1,7 +1,7 @@
 ghost use Rattle.std.specs.Prelude.{◌≡◌};
 ghost use Rattle.il_code.specs.Instructions.{opcode_row};
 
-/// An opcode (ECMA-335 III.3). The short and the long forms of an instruction are opcodes of their own.
+/// An opcode (ECMA-335 III.2 to III.4). The short and the long forms of an instruction are opcodes of their own.
 #[derive(Clone, Copy, Debug, PartialEq, Eq)]
 pub enum Op {
     Nop,

@@ -1,5 +1,5 @@
 ghost use Rattle.std.specs.Prelude.{◌≡◌};
-ghost use Rattle.il_code.specs.Operations.{operation_of, constant};
+ghost use Rattle.il_code.specs.Operations.{operation_of, constant, target};
 
 use crate::body::{Instr, Operand};
 use crate::opcode::Op;
@@ -17,6 +17,10 @@ pub enum Operation {
     Discard,
     /// `add`, `sub`, `mul`: what the two values on top of the stack give.
     Binary(BinaryOperation),
+    /// `br`: goes on at an offset.
+    Branch(u32),
+    /// `brtrue`: drops the value on top of the stack, and goes on at an offset unless it is 0.
+    BranchIfTrue(u32),
     /// `ret`: goes back to the caller with the result, or ends the program.
     Return,
 }
@@ -51,6 +55,8 @@ impl Instr {
             Op::Dup => Some(Operation::Duplicate),
             Op::Pop => Some(Operation::Discard),
             Op::Ret => Some(Operation::Return),
+            Op::BrS | Op::Br => target_of(&self.operand).map(Operation::Branch),
+            Op::BrtrueS | Op::Brtrue => target_of(&self.operand).map(Operation::BranchIfTrue),
             Op::Add => Some(Operation::Binary(BinaryOperation::Add)),
             Op::Sub => Some(Operation::Binary(BinaryOperation::Subtract)),
             Op::Mul => Some(Operation::Binary(BinaryOperation::Multiply)),
@@ -65,6 +71,16 @@ fn constant_operation(operand: &Operand) -> Option<Operation>
 {
     match operand {
         Operand::Number(number) => i32::try_from(*number).ok().map(Operation::Constant),
+        _ => None,
+    }
+}
+
+/// The target that stands as the operand.
+fn target_of(operand: &Operand) -> Option<u32>
+    ensures { result ≡ target operand.now }
+{
+    match operand {
+        Operand::Target(offset) => Some(*offset),
         _ => None,
     }
 }

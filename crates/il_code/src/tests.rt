@@ -1,8 +1,9 @@
 use crate::{
-    BinaryOperation, BodyFault, CodeFault, Instr, Op, Operand, Operation, instruction_at,
-    instructions, tiny_code,
+    BinaryOperation, BodyFault, CodeFault, Instr, Op, Operand, Operation, begins_one,
+    instruction_at, instructions, targets_begin, tiny_code,
 };
 use std::alloc::Global;
+use std::test::Fail;
 
 /// The offset of the fault in a body that is refused.
 fn bad_offset(bytes: &[u8]) -> Option<u32> {
@@ -131,6 +132,19 @@ fn stack_operations(rt: HostRuntime) {
     }
 }
 
+/// The branches in both forms, with the offsets to which they go (ECMA-335 III.3.15, III.3.18).
+#[test]
+fn branches(rt: HostRuntime) {
+    for (code, operation, next) in [
+        (b"\x2B\x03\x00\x00\x00", Operation::Branch(5), 2),
+        (b"\x38\x03\x00\x00\x00", Operation::Branch(8), 5),
+        (b"\x2D\xFE\x00\x00\x00", Operation::BranchIfTrue(0), 2),
+        (b"\x3A\xFB\xFF\xFF\xFF", Operation::BranchIfTrue(0), 5),
+    ] {
+        assert_eq!(rt; first(rt.alloc(), code.as_slice()), Some((operation, next)));
+    }
+}
+
 #[test]
 fn an_instruction_behind_another(rt: HostRuntime) {
     let ret = instruction_at(rt.alloc(), b"\x1F\x2A\x2A", 2);
@@ -201,4 +215,18 @@ fn lists_of_instructions(rt: HostRuntime) {
         fault(alloc, b"\x00\x2B\x01\x1F\x05"),
         Some(CodeFault::BadTarget(1))
     );
+}
+
+/// The offsets at which instructions stand, and the targets of an operand among them.
+#[test]
+fn where_instructions_stand(rt: HostRuntime) -> Result<(), Fail> {
+    let alloc = rt.alloc();
+    let instrs = instructions(alloc, b"\x2B\x01\x00\x17\x2A")?;
+    let instrs = instrs.as_slice();
+    assert!(rt; begins_one(instrs, 3) && !begins_one(instrs, 1) && !begins_one(instrs, 5));
+    assert!(rt;
+        targets_begin(instrs, &Operand::Target(2)) && !targets_begin(instrs, &Operand::Target(1))
+    );
+    assert!(rt; targets_begin(instrs, &Operand::Nothing));
+    Ok(())
 }

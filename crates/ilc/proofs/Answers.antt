@@ -9,13 +9,15 @@ use Rattle.ilc.specs.Seen.{StoreSeen, StreamsSeen}
 use Rattle.ilc.specs.Words.{command_of, word_at}
 use Rattle.ilc.specs.declared.command.Command.TheVariants.{Body}
 use Rattle.ilc.specs.declared.outcome.Outcome.{Outcome}
-use Rattle.ilc.specs.declared.outcome.Outcome.TheVariants.{Usage, NoFile, TooLong, BadHeader, OpcodeOutside, Unverified, BadElf, ReadFault, WriteFault, Spent, Trapped, Ended, Written, Memory}
+use Rattle.ilc.specs.declared.outcome.Outcome.TheVariants.{Usage, NoFile, TooLong, BadHeader, BadOpcode, BadTarget, OpcodeOutside, Unverified, BadElf, ReadFault, WriteFault, Spent, Trapped, Ended, Written, Memory}
 
 not_built_fails : (index : ℕ) (file : List ℕ) (before now : StoreSeen) (o : Outcome) → NotBuilt index file before now o → status_of o ≡ 0 → ⊥
 not_built_fails index file before now (Usage i) h e = h
 not_built_fails index file before now (NoFile w) h e = omega arith
 not_built_fails index file before now (TooLong s) h e = omega arith
 not_built_fails index file before now (BadHeader w s) h e = omega arith
+not_built_fails index file before now (BadOpcode s) h e = omega arith
+not_built_fails index file before now (BadTarget s) h e = omega arith
 not_built_fails index file before now (OpcodeOutside s) h e = omega arith
 not_built_fails index file before now (Unverified s) h e = omega arith
 not_built_fails index file before now (BadElf w p) h e = h
@@ -35,6 +37,8 @@ written_at_0 out elf before now (Usage i) h e = absurd h
 written_at_0 out elf before now (NoFile w) h e = absurd h
 written_at_0 out elf before now (TooLong s) h e = absurd h
 written_at_0 out elf before now (BadHeader w s) h e = absurd h
+written_at_0 out elf before now (BadOpcode s) h e = absurd h
+written_at_0 out elf before now (BadTarget s) h e = absurd h
 written_at_0 out elf before now (OpcodeOutside s) h e = absurd h
 written_at_0 out elf before now (Unverified s) h e = absurd h
 written_at_0 out elf before now (BadElf w p) h e = absurd h
@@ -49,11 +53,9 @@ body_written index file out before now o (inr h) e =
     record {
       bytes = h.1.bytes;
       read = h.1.read.content;
-      body = h.1.body;
-      reads = h.1.reads;
       elf = h.0;
+      builds = h.1.builds;
       written = written_at_0 out h.0 before now o h.2 e;
-      implements = h.1.implements;
     }
 
 pub cause_written : (words : List (List ℕ)) (before now : StoreSeen) (streams streams' : StreamsSeen) (o : Outcome) (file out : ℕ) → Cause words before now streams streams' o → command_of words ≡ Ok (Body file out) → status_of o ≡ 0 → HasWritten (word_at words file) (word_at words out) before.told now.told

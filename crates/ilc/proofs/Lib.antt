@@ -1,13 +1,3 @@
-pub mod Constants
-pub mod Place
-pub mod Registers
-pub mod Values
-pub mod Slots
-pub mod Blocks
-pub mod Reading
-pub mod Straight
-pub mod Simulation
-pub mod Compiled
 pub mod Words
 pub mod StepCount
 pub mod Printing

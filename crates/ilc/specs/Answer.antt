@@ -5,9 +5,10 @@ use Rattle.std.specs.FinMap.{get}
 use Rattle.ilc_io.specs.Count.{HasRisen}
 use Rattle.ilc_io.specs.Store.{Store, stored}
 use Rattle.il_code.specs.declared.body.Body.{Body}
-use Rattle.ilc.specs.Bare.{ReadsBare}
+use Rattle.ilc_build.specs.Bare.{ReadsBare}
+use Rattle.ilc_build.specs.Implements.{Builds}
+use Rattle.ilc_build.specs.declared.depths.Known.{Known}
 use Rattle.ilc.specs.Cause.{Cause}
-use Rattle.ilc.specs.Implements.{Implements}
 use Rattle.ilc.specs.Line.{status_of, line_of}
 use Rattle.ilc.specs.Printed.{Prints, BreaksOff}
 use Rattle.ilc.specs.Seen.{StoreSeen, StreamsSeen}
@@ -30,11 +31,9 @@ pub record Answers (words : List (List ℕ)) (before now : StoreSeen) (streams s
 pub record HasWritten (file out : List ℕ) (before now : Option Store) : Type 0 where
   pub bytes : List ℕ
   pub read : (store : Store) → before ≡ Some store → get store file ≡ Some bytes
-  pub body : Body
-  pub reads : ReadsBare bytes body
   pub elf : List ℕ
+  pub builds : Builds bytes elf
   pub written : now ≡ option_map (stored out elf) before
-  pub implements : Implements body elf
 
 -- the store tells that a file has the bytes of a bare body
 pub record HasBare (file : List ℕ) (told : Option Store) : Type 0 where
@@ -43,7 +42,8 @@ pub record HasBare (file : List ℕ) (told : Option Store) : Type 0 where
   pub bytes : List ℕ
   pub content : get store file ≡ Some bytes
   pub body : Body
-  pub reads : ReadsBare bytes body
+  pub table : List Known
+  pub reads : ReadsBare bytes body table
 
 -- no fault of the store was counted
 abbrev pub NoneCounted : StoreSeen → StoreSeen → Type 0

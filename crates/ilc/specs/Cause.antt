@@ -6,15 +6,12 @@ use Rattle.ilc_io.specs.Count.{HasRisen}
 use Rattle.ilc_io.specs.declared.fault.FileFault.{FileFault}
 use Rattle.ilc_io.specs.declared.fault.FileFault.TheVariants.{Missing, Failed, TooLong as FileTooLong, Memory as FileMemory}
 use Rattle.ilc_io.specs.Store.{Store, size_of, stored, IsPartlyStored}
-use Rattle.il_code.specs.declared.body.Body.{Body as MethodBody}
-use Rattle.il_code.specs.declared.body.Instr.{Instr}
-use Rattle.il_code.specs.Tiny.{tiny_body}
 use Rattle.rv_step.specs.Machine.{MachineState, request}
 use Rattle.rv_step.specs.Outcomes.{Asks, GoesOn, EndsAfter, TrapsWithin, ReadFailsWithin, WriteFailsWithin}
 use Rattle.elf_file.specs.Elf.{loaded}
-use Rattle.ilc.specs.Bare.{bare_code, ReadsBare}
-use Rattle.ilc.specs.Typing.{first_failing, tiny_max_stack}
-use Rattle.ilc.specs.Implements.{Implements}
+use Rattle.ilc_build.specs.Implements.{Builds}
+use Rattle.ilc_build.specs.Refusals.{NotBare}
+use Rattle.ilc_build.specs.declared.build.BuildFault.{BuildFault}
 use Rattle.ilc.specs.Line.{count_line}
 use Rattle.ilc.specs.Printed.{Prints, BreaksOff}
 use Rattle.ilc.specs.Seen.{StoreSeen, StreamsSeen}
@@ -22,7 +19,7 @@ use Rattle.ilc.specs.Words.{command_of, word_at}
 use Rattle.ilc.specs.declared.command.Command.{Command}
 use Rattle.ilc.specs.declared.command.Command.TheVariants.{Body, Run}
 use Rattle.ilc.specs.declared.outcome.Outcome.{Outcome}
-use Rattle.ilc.specs.declared.outcome.Outcome.TheVariants.{Usage, NoFile, TooLong, BadHeader, OpcodeOutside, Unverified, BadElf, ReadFault, WriteFault, Spent, Trapped, Ended, Written, Memory}
+use Rattle.ilc.specs.declared.outcome.Outcome.TheVariants.{Usage, NoFile, TooLong, BadHeader, BadOpcode, BadTarget, OpcodeOutside, Unverified, BadElf, ReadFault, WriteFault, Spent, Trapped, Ended, Written, Memory}
 
 -- ---- reading a file
 
@@ -65,48 +62,36 @@ outcome_of_read FileMemory index = Memory
 abbrev pub body_limit : ℕ
 body_limit = 16777216
 
--- The outcomes of code that isn't that of a bare body. That it is verified is asked of instructions that are all
--- read.
-abbrev pub NotBareCode : List ℕ → Outcome → Type 0
-NotBareCode code (OpcodeOutside offset) = bare_code code ≡ Err offset
-NotBareCode code (Unverified offset) =
-    (instrs : List Instr) × (bare_code code ≡ Ok instrs) × (first_failing tiny_max_stack 0 instrs ≡ Some offset)
-NotBareCode code Memory = Unit {0}
-NotBareCode code _ = ⊥
+-- the bytes of the file are no bare body, for this fault
+abbrev pub Refuses : List ℕ → StoreSeen → StoreSeen → BuildFault → Type 0
+Refuses file before now fault =
+    (bytes : List ℕ) × IsRead file body_limit bytes before now × NotBare bytes fault
 
--- the code behind the header has the outcome
-abbrev pub CodeGives : List ℕ → Outcome → Type 0
-CodeGives bytes outcome = (code : List ℕ) × (tiny_body bytes ≡ Ok code) × NotBareCode code outcome
-
--- the outcomes of bytes that are no bare body, in the file that the word at an index names
-abbrev pub NotBare : ℕ → List ℕ → Outcome → Type 0
-NotBare index bytes (BadHeader word offset) = (word ≡ index) × (tiny_body bytes ≡ Err offset)
-NotBare index bytes (OpcodeOutside offset) = CodeGives bytes (OpcodeOutside offset)
-NotBare index bytes (Unverified offset) = CodeGives bytes (Unverified offset)
-NotBare index bytes Memory = Unit {0}
-NotBare index bytes _ = ⊥
+-- what a fault of the bytes comes out as, of the file that the word at an index names
+abbrev pub outcome_of_build : BuildFault → ℕ → Outcome
+outcome_of_build (BuildFault.BadHeader offset) index = BadHeader index offset
+outcome_of_build (BuildFault.BadOpcode offset) index = BadOpcode offset
+outcome_of_build (BuildFault.BadTarget offset) index = BadTarget offset
+outcome_of_build (BuildFault.OpcodeOutside offset) index = OpcodeOutside offset
+outcome_of_build (BuildFault.Unverified offset) index = Unverified offset
+outcome_of_build BuildFault.Memory index = Memory
 
 -- a bare body was read from a file, and the executable file `elf` does what it does
 pub record IsBuilt (file elf : List ℕ) (before now : StoreSeen) : Type 0 where
   pub bytes : List ℕ
   pub read : IsRead file body_limit bytes before now
-  pub body : MethodBody
-  pub reads : ReadsBare bytes body
-  pub implements : Implements body elf
-
--- the bytes of the file have the outcome
-abbrev pub BytesGive : ℕ → List ℕ → StoreSeen → StoreSeen → Outcome → Type 0
-BytesGive index file before now outcome =
-    (bytes : List ℕ) × IsRead file body_limit bytes before now × NotBare index bytes outcome
+  pub builds : Builds bytes elf
 
 -- When each outcome comes of a body that wasn't built. Want of memory may come at any time.
 abbrev pub NotBuilt : ℕ → List ℕ → StoreSeen → StoreSeen → Outcome → Type 0
 NotBuilt index file before now (NoFile word) = (word ≡ index) × IsMissing file before now
 NotBuilt index file before now (TooLong size) = IsTooLong file body_limit size before now
 NotBuilt index file before now ReadFault = HasRisen before.read_faults now.read_faults
-NotBuilt index file before now (BadHeader word offset) = BytesGive index file before now (BadHeader word offset)
-NotBuilt index file before now (OpcodeOutside offset) = BytesGive index file before now (OpcodeOutside offset)
-NotBuilt index file before now (Unverified offset) = BytesGive index file before now (Unverified offset)
+NotBuilt index file before now (BadHeader word offset) = (word ≡ index) × Refuses file before now (BuildFault.BadHeader offset)
+NotBuilt index file before now (BadOpcode offset) = Refuses file before now (BuildFault.BadOpcode offset)
+NotBuilt index file before now (BadTarget offset) = Refuses file before now (BuildFault.BadTarget offset)
+NotBuilt index file before now (OpcodeOutside offset) = Refuses file before now (BuildFault.OpcodeOutside offset)
+NotBuilt index file before now (Unverified offset) = Refuses file before now (BuildFault.Unverified offset)
 NotBuilt index file before now Memory = Unit {0}
 NotBuilt index file before now _ = ⊥
 

@@ -1,8 +1,3 @@
-pub mod Cil
-pub mod Typing
-pub mod Code
-pub mod Bare
-pub mod Implements
 pub mod Words
 pub mod Seen
 pub mod Line

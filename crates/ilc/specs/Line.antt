@@ -6,7 +6,7 @@ use Rattle.rv_step.specs.declared.trap.Cause.{Cause}
 use Rattle.rv_step.specs.declared.trap.Cause.TheVariants.{Fetch, Load, Store, Illegal, Call}
 use Rattle.ilc.specs.Words.{word_at}
 use Rattle.ilc.specs.declared.outcome.Outcome.{Outcome}
-use Rattle.ilc.specs.declared.outcome.Outcome.TheVariants.{Usage, NoFile, TooLong, BadHeader, OpcodeOutside, Unverified, BadElf, ReadFault, WriteFault, Spent, Trapped, Ended, Written, Memory}
+use Rattle.ilc.specs.declared.outcome.Outcome.TheVariants.{Usage, NoFile, TooLong, BadHeader, BadOpcode, BadTarget, OpcodeOutside, Unverified, BadElf, ReadFault, WriteFault, Spent, Trapped, Ended, Written, Memory}
 
 -- what the process ends with
 abbrev pub status_of : Outcome → ℕ
@@ -15,6 +15,8 @@ status_of (Ended status) = status
 status_of (Usage index) = 64
 status_of (NoFile word) = 66
 status_of (BadHeader word offset) = 65
+status_of (BadOpcode offset) = 65
+status_of (BadTarget offset) = 65
 status_of (BadElf word place) = 65
 status_of (OpcodeOutside offset) = 69
 status_of (Unverified offset) = 70
@@ -53,6 +55,8 @@ line_parts words ReadFault = codes "ilc: read fault\n" ∷ []
 line_parts words WriteFault = codes "ilc: write fault\n" ∷ []
 line_parts words (BadHeader word offset) = codes "ilc: 9 BadHeader " ∷ word_at words word ∷ codes " " ∷ decimal offset ∷ newline ∷ []
 line_parts words (BadElf word place) = codes "ilc: 30 BadElf " ∷ word_at words word ∷ codes " " ∷ decimal place ∷ newline ∷ []
+line_parts words (BadOpcode offset) = codes "ilc: 10 BadOpcode " ∷ body_method ∷ codes " " ∷ decimal offset ∷ newline ∷ []
+line_parts words (BadTarget offset) = codes "ilc: 11 BadTarget " ∷ body_method ∷ codes " " ∷ decimal offset ∷ newline ∷ []
 line_parts words (OpcodeOutside offset) = codes "ilc: 24 OpcodeOutside " ∷ body_method ∷ codes " " ∷ decimal offset ∷ newline ∷ []
 line_parts words (Unverified offset) = codes "ilc: 20 Unverified " ∷ body_method ∷ codes " " ∷ decimal offset ∷ newline ∷ []
 line_parts words (TooLong size) = codes "ilc: limit file " ∷ decimal size ∷ newline ∷ []

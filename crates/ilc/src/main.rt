@@ -1,14 +1,11 @@
-//! `ilc` compiles CIL assemblies to one executable file for RV64IM, and runs such a file on a machine.
+//! `ilc` compiles a CIL method body to an executable file for RV64IM, and runs such a file on a machine.
 #![tactic(auto)]
 
-mod bare;
 mod command;
-mod compile;
 mod outcome;
 mod perform;
 mod report;
 mod top;
-mod typing;
 
 pub use command::Command;
 use ilc_io::{HostFiles, StreamSink, StreamSource};

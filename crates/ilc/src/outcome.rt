@@ -14,7 +14,12 @@ pub enum Outcome {
     TooLong { size: u64 },
     /// A file is no body: the first offset at which a byte is wrong, missing or left over.
     BadHeader { word: usize, offset: u32 },
-    /// The code of a body isn't one that is accepted: the offset of the first instruction that isn't so.
+    /// At this offset of the code of a body no instruction stands whole.
+    BadOpcode { offset: u32 },
+    /// The instruction at this offset of a body has a target at which none stands, or control comes to it and runs past
+    /// the end of the code; 0 of empty code.
+    BadTarget { offset: u32 },
+    /// Control comes to an instruction that `body` doesn't do: the first offset of one.
     OpcodeOutside { offset: u32 },
     /// The code of a body isn't verified: the least offset that fails.
     Unverified { offset: u32 },
@@ -44,7 +49,10 @@ impl Outcome {
             Outcome::Written => 0,
             Outcome::Ended { status } => *status,
             Outcome::Usage { .. } => 64,
-            Outcome::BadHeader { .. } | Outcome::BadElf { .. } => 65,
+            Outcome::BadHeader { .. }
+            | Outcome::BadOpcode { .. }
+            | Outcome::BadTarget { .. }
+            | Outcome::BadElf { .. } => 65,
             Outcome::NoFile { .. } => 66,
             Outcome::OpcodeOutside { .. } => 69,
             Outcome::Unverified { .. } => 70,

@@ -1,14 +1,13 @@
 ghost use Rattle.std.specs.Prelude.{◌≡◌, ◌<◌, ◌≤◌, length, IfOk, IfErr};
 ghost use Rattle.ilc.specs.Words.{word_at};
 ghost use Rattle.ilc.specs.Seen.{store_seen, streams_seen};
-ghost use Rattle.ilc.specs.Cause.{NotBuilt, IsBuilt, WriteOutcome, BodyOutcome, NotLoaded, IsLoaded, MachineOutcome, Cause, outcome_of_read};
+ghost use Rattle.ilc.specs.Cause.{NotBuilt, IsBuilt, WriteOutcome, BodyOutcome, NotLoaded, IsLoaded, MachineOutcome, Cause, outcome_of_read, outcome_of_build};
 
-use crate::bare::read_bare;
 use crate::command::{Command, parse_command};
-use crate::compile::compile;
 use crate::outcome::Outcome;
 use crate::report::report_count;
 use elf_file::{ElfFault, load_elf};
+use ilc_build::{BuildFault, build_body};
 use ilc_io::{FileFault, Files, Sink, Source, read_file, write_file};
 use num_core::{Bytes, Text};
 use rv_step::{Machine, RunFault};
@@ -82,9 +81,9 @@ fn build<F: Files>(
         Ok(bytes) => bytes,
         Err(fault) => return Err(read_outcome(fault, file)),
     };
-    match read_bare(alloc, bytes.as_slice(), file) {
-        Ok(body) => compile(alloc, &body).map_err(|_| Outcome::Memory),
-        Err(outcome) => Err(outcome),
+    match build_body(alloc, bytes.as_slice()) {
+        Ok(elf) => Ok(elf),
+        Err(fault) => Err(build_outcome(fault, file)),
     }
 }
 
@@ -105,6 +104,20 @@ fn read_outcome(fault: FileFault, word: usize) -> Outcome
         FileFault::TooLong(size) => Outcome::TooLong { size },
         FileFault::Failed => Outcome::ReadFault,
         FileFault::Memory => Outcome::Memory,
+    }
+}
+
+/// The outcome of a file that isn't built, which the word at an index names.
+fn build_outcome(fault: BuildFault, word: usize) -> Outcome
+    ensures { result ≡ outcome_of_build fault word }
+{
+    match fault {
+        BuildFault::BadHeader(offset) => Outcome::BadHeader { word, offset },
+        BuildFault::BadOpcode(offset) => Outcome::BadOpcode { offset },
+        BuildFault::BadTarget(offset) => Outcome::BadTarget { offset },
+        BuildFault::OpcodeOutside(offset) => Outcome::OpcodeOutside { offset },
+        BuildFault::Unverified(offset) => Outcome::Unverified { offset },
+        BuildFault::Memory => Outcome::Memory,
     }
 }
 

@@ -50,6 +50,16 @@ pub(crate) fn report<S: Sink>(sink: &mut S, words: &[Text], outcome: &Outcome) -
             let name = name(words, word);
             write_pieces(sink, &[b"ilc: 30 BadElf ", name, b" ", place, b"\n"])
         }
+        Outcome::BadOpcode { offset } => {
+            let offset = decimal(&mut number, offset as u64);
+            let method = body_method();
+            write_pieces(sink, &[b"ilc: 10 BadOpcode ", method, b" ", offset, b"\n"])
+        }
+        Outcome::BadTarget { offset } => {
+            let offset = decimal(&mut number, offset as u64);
+            let method = body_method();
+            write_pieces(sink, &[b"ilc: 11 BadTarget ", method, b" ", offset, b"\n"])
+        }
         Outcome::OpcodeOutside { offset } => {
             let offset = decimal(&mut number, offset as u64);
             let method = body_method();

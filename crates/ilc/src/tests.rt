@@ -194,30 +194,109 @@ fn refused_headers(rt: HostRuntime) -> Result<(), Fail> {
     )
 }
 
-/// An unknown opcode, a constant that is cut, no return, and a return before the end, which comes before what isn't
-/// verified.
+/// A byte that is no opcode, a constant that is cut, half an opcode of two bytes, and one that is asked before a target.
 #[test]
-fn refused_code(rt: HostRuntime) -> Result<(), Fail> {
+fn bad_opcodes(rt: HostRuntime) -> Result<(), Fail> {
+    all_refused(
+        &rt,
+        rt.alloc(),
+        65,
+        &[
+            (
+                b"\x0A\x24\x2A",
+                "ilc: 10 BadOpcode [body]Body::Main()->System.Int32 0\n",
+            ),
+            (
+                b"\x0E\x17\x20\x2A",
+                "ilc: 10 BadOpcode [body]Body::Main()->System.Int32 1\n",
+            ),
+            (
+                b"\x06\xFE",
+                "ilc: 10 BadOpcode [body]Body::Main()->System.Int32 0\n",
+            ),
+            (
+                b"\x12\x2B\x05\x24\x2A",
+                "ilc: 10 BadOpcode [body]Body::Main()->System.Int32 2\n",
+            ),
+        ],
+    )
+}
+
+/// Behind the code, inside an instruction, and from one that isn't reached.
+#[test]
+fn bad_targets(rt: HostRuntime) -> Result<(), Fail> {
+    all_refused(
+        &rt,
+        rt.alloc(),
+        65,
+        &[
+            (
+                b"\x0A\x2B\x01",
+                "ilc: 11 BadTarget [body]Body::Main()->System.Int32 0\n",
+            ),
+            (
+                b"\x12\x2B\x01\x1F\x2A",
+                "ilc: 11 BadTarget [body]Body::Main()->System.Int32 0\n",
+            ),
+            (
+                b"\x12\x17\x2A\x2B\x05",
+                "ilc: 11 BadTarget [body]Body::Main()->System.Int32 2\n",
+            ),
+        ],
+    )
+}
+
+/// No code, code without a return, a branch that isn't taken at the end, and an opcode that isn't allowed before.
+#[test]
+fn control_past_the_end(rt: HostRuntime) -> Result<(), Fail> {
+    all_refused(
+        &rt,
+        rt.alloc(),
+        65,
+        &[
+            (
+                b"\x02",
+                "ilc: 11 BadTarget [body]Body::Main()->System.Int32 0\n",
+            ),
+            (
+                b"\x0A\x1F\x2A",
+                "ilc: 11 BadTarget [body]Body::Main()->System.Int32 0\n",
+            ),
+            (
+                b"\x0E\x17\x2D\xFD",
+                "ilc: 11 BadTarget [body]Body::Main()->System.Int32 1\n",
+            ),
+            (
+                b"\x0A\x14\x00",
+                "ilc: 11 BadTarget [body]Body::Main()->System.Int32 1\n",
+            ),
+        ],
+    )
+}
+
+/// The first instruction, one behind a constant, one that a branch alone leads to, and one behind what isn't verified.
+#[test]
+fn opcodes_outside(rt: HostRuntime) -> Result<(), Fail> {
     all_refused(
         &rt,
         rt.alloc(),
         69,
         &[
             (
-                b"\x0A\x24\x2A",
+                b"\x0A\x14\x2A",
                 "ilc: 24 OpcodeOutside [body]Body::Main()->System.Int32 0\n",
             ),
             (
-                b"\x0E\x17\x20\x2A",
+                b"\x0E\x17\x0A\x2A",
                 "ilc: 24 OpcodeOutside [body]Body::Main()->System.Int32 1\n",
             ),
             (
-                b"\x0A\x1F\x2A",
-                "ilc: 24 OpcodeOutside [body]Body::Main()->System.Int32 2\n",
+                b"\x16\x2B\x01\x2A\x14\x2A",
+                "ilc: 24 OpcodeOutside [body]Body::Main()->System.Int32 3\n",
             ),
             (
-                b"\x0E\x58\x2A\x2A",
-                "ilc: 24 OpcodeOutside [body]Body::Main()->System.Int32 2\n",
+                b"\x12\x26\x14\x26\x2A",
+                "ilc: 24 OpcodeOutside [body]Body::Main()->System.Int32 1\n",
             ),
         ],
     )
@@ -249,6 +328,75 @@ fn unverified_code(rt: HostRuntime) -> Result<(), Fail> {
             ),
         ],
     )
+}
+
+/// A branch that nothing decides, two ways with different depths, and a loop whose stack grows.
+#[test]
+fn unverified_branches(rt: HostRuntime) -> Result<(), Fail> {
+    all_refused(
+        &rt,
+        rt.alloc(),
+        70,
+        &[
+            (
+                b"\x0E\x2D\x00\x2A",
+                "ilc: 20 Unverified [body]Body::Main()->System.Int32 0\n",
+            ),
+            (
+                b"\x1A\x17\x2D\x01\x17\x17\x2A",
+                "ilc: 20 Unverified [body]Body::Main()->System.Int32 4\n",
+            ),
+            (
+                b"\x0E\x17\x2B\xFD",
+                "ilc: 20 Unverified [body]Body::Main()->System.Int32 0\n",
+            ),
+        ],
+    )
+}
+
+/// Taken and not taken, by a long form, forwards and back, and what isn't reached, whatever stands there.
+#[test]
+fn branches(rt: HostRuntime) -> Result<(), Fail> {
+    all_end(
+        &rt,
+        rt.alloc(),
+        &[
+            (b"\x26\x17\x2D\x03\x1F\x0A\x2A\x1F\x14\x2A", 20),
+            (b"\x26\x16\x2D\x03\x1F\x0A\x2A\x1F\x14\x2A", 10),
+            (b"\x32\x17\x3A\x03\x00\x00\x00\x1F\x0A\x2A\x1F\x14\x2A", 20),
+            (b"\x2A\x2B\x03\x1F\x07\x2A\x38\xF8\xFF\xFF\xFF", 7),
+            (b"\x12\x17\x2A\x14\x2A", 1),
+            (b"\x0E\x17\x2A\x00", 1),
+        ],
+    )
+}
+
+/// The least number isn't 0, and twice that number is; 1 is doubled in a loop until it is 64.
+#[test]
+fn decided_by_numbers(rt: HostRuntime) -> Result<(), Fail> {
+    all_end(
+        &rt,
+        rt.alloc(),
+        &[
+            (b"\x2E\x20\x00\x00\x00\x80\x2D\x02\x16\x2A\x17\x2A", 1),
+            (
+                b"\x36\x20\x00\x00\x00\x80\x25\x58\x2D\x02\x16\x2A\x17\x2A",
+                0,
+            ),
+            (b"\x2A\x17\x25\x58\x25\x1F\x40\x59\x2D\xF8\x2A", 64),
+        ],
+    )
+}
+
+/// A branch to itself goes on for ever, and prints nothing.
+#[test]
+fn a_loop_without_end(rt: HostRuntime) -> Result<(), Fail> {
+    let alloc = rt.alloc();
+    let mut files = with_body(alloc, b"\x0A\x2B\xFE", &[])?;
+    assert_eq!(rt; call(alloc, &mut files, "body F -o OUT")?.status, 0);
+    let told = call(alloc, &mut files, "run OUT --steps 1000")?;
+    assert!(rt; is_told(&told, 124, "ilc: 21 Spent 1000\n"));
+    Ok(())
 }
 
 #[test]

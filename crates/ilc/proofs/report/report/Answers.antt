@@ -42,16 +42,40 @@ returns-in-BadElf-clause-printed g c =
     (four_parts (codes "ilc: 30 BadElf ") _ _ _ _ c.name-name-in-BadElf.ensures c.decimal-place.ensures ∙ ap (line_of c.args.words.now) (sym c.in-BadElf.is))
     c.write_pieces-in-BadElf.ensures.written
 
+pub returns-in-BadOpcode-clause-printed : goal.returns-in-BadOpcode-clause-printed
+returns-in-BadOpcode-clause-printed g c =
+    printed_as c.write_pieces-in-BadOpcode.result _ _ _ _
+    (four_parts (codes "ilc: 10 BadOpcode ") _ _ _ _ c.body_method-method.ensures c.decimal-offset-in-BadOpcode.ensures ∙ ap (line_of c.args.words.now) (sym c.in-BadOpcode.is))
+    c.write_pieces-in-BadOpcode.ensures.written
+
+pub returns-in-BadOpcode-clause-broken_off : goal.returns-in-BadOpcode-clause-broken_off
+returns-in-BadOpcode-clause-broken_off g c =
+    begun_as c.write_pieces-in-BadOpcode.result _ _ _ _
+    (four_parts (codes "ilc: 10 BadOpcode ") _ _ _ _ c.body_method-method.ensures c.decimal-offset-in-BadOpcode.ensures ∙ ap (line_of c.args.words.now) (sym c.in-BadOpcode.is))
+    c.write_pieces-in-BadOpcode.ensures.broken_off
+
+pub returns-in-BadTarget-clause-printed : goal.returns-in-BadTarget-clause-printed
+returns-in-BadTarget-clause-printed g c =
+    printed_as c.write_pieces-in-BadTarget.result _ _ _ _
+    (four_parts (codes "ilc: 11 BadTarget ") _ _ _ _ c.body_method-method-in-BadTarget.ensures c.decimal-offset-in-BadTarget.ensures ∙ ap (line_of c.args.words.now) (sym c.in-BadTarget.is))
+    c.write_pieces-in-BadTarget.ensures.written
+
+pub returns-in-BadTarget-clause-broken_off : goal.returns-in-BadTarget-clause-broken_off
+returns-in-BadTarget-clause-broken_off g c =
+    begun_as c.write_pieces-in-BadTarget.result _ _ _ _
+    (four_parts (codes "ilc: 11 BadTarget ") _ _ _ _ c.body_method-method-in-BadTarget.ensures c.decimal-offset-in-BadTarget.ensures ∙ ap (line_of c.args.words.now) (sym c.in-BadTarget.is))
+    c.write_pieces-in-BadTarget.ensures.broken_off
+
 pub returns-in-OpcodeOutside-clause-printed : goal.returns-in-OpcodeOutside-clause-printed
 returns-in-OpcodeOutside-clause-printed g c =
     printed_as c.write_pieces-in-OpcodeOutside.result _ _ _ _
-    (four_parts (codes "ilc: 24 OpcodeOutside ") _ _ _ _ c.body_method-method.ensures c.decimal-offset-in-OpcodeOutside.ensures ∙ ap (line_of c.args.words.now) (sym c.in-OpcodeOutside.is))
+    (four_parts (codes "ilc: 24 OpcodeOutside ") _ _ _ _ c.body_method-method-in-OpcodeOutside.ensures c.decimal-offset-in-OpcodeOutside.ensures ∙ ap (line_of c.args.words.now) (sym c.in-OpcodeOutside.is))
     c.write_pieces-in-OpcodeOutside.ensures.written
 
 pub returns-in-OpcodeOutside-clause-broken_off : goal.returns-in-OpcodeOutside-clause-broken_off
 returns-in-OpcodeOutside-clause-broken_off g c =
     begun_as c.write_pieces-in-OpcodeOutside.result _ _ _ _
-    (four_parts (codes "ilc: 24 OpcodeOutside ") _ _ _ _ c.body_method-method.ensures c.decimal-offset-in-OpcodeOutside.ensures ∙ ap (line_of c.args.words.now) (sym c.in-OpcodeOutside.is))
+    (four_parts (codes "ilc: 24 OpcodeOutside ") _ _ _ _ c.body_method-method-in-OpcodeOutside.ensures c.decimal-offset-in-OpcodeOutside.ensures ∙ ap (line_of c.args.words.now) (sym c.in-OpcodeOutside.is))
     c.write_pieces-in-OpcodeOutside.ensures.broken_off
 
 pub returns-in-Unverified-clause-printed : goal.returns-in-Unverified-clause-printed

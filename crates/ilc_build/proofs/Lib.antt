@@ -1,0 +1,17 @@
+pub mod Constants
+pub mod Place
+pub mod Registers
+pub mod Values
+pub mod Slots
+pub mod Blocks
+pub mod Knowing
+pub mod Rising
+pub mod Rows
+pub mod Emitted
+pub mod Following
+pub mod Splits
+pub mod Moves
+pub mod Telling
+pub mod Simulation
+pub mod Compiled
+pub mod Refused
