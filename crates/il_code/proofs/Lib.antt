@@ -1,2 +1,4 @@
+pub mod Search
+pub mod Following
 pub mod Targets
 pub mod Listed

@@ -1,5 +1,5 @@
 ghost use Rattle.std.specs.Prelude.{◌≡◌, ◌<◌, ◌≤◌, ◌^◌, length, Ok, None, IfOk, IfErr};
-ghost use Rattle.il_code.specs.Listing.{listed, begins_one as begins_one_of, leads_right as leads_right_of, targets_in, first_astray as first_astray_of, NotListed};
+ghost use Rattle.il_code.specs.Listing.{listed, begins_one as begins_one_of, targets_in, first_astray as first_astray_of, AreRising, NotListed};
 ghost use Rattle.std.specs.List.{list_all};
 
 use crate::body::{Instr, Operand};
@@ -30,6 +30,7 @@ pub fn instructions(alloc: Global, code: &[u8]) -> Result<List<Instr>, CodeFault
     requires { length code.now < 2 ^ 31 }
     ensures code { IfOk result (λ instrs. listed code.now ≡ Ok instrs) }
     ensures targets { IfOk result (λ instrs. first_astray_of instrs ≡ None) }
+    ensures rising { IfOk result AreRising }
     // An instruction has one byte at least.
     ensures few { IfOk result (λ instrs. length instrs ≤ length code.now) }
     ensures refused { IfErr result (NotListed code.now) }
@@ -48,6 +49,7 @@ pub fn instructions(alloc: Global, code: &[u8]) -> Result<List<Instr>, CodeFault
 fn list(alloc: Global, code: &[u8]) -> Result<List<Instr>, CodeFault>
     requires { length code.now < 2 ^ 31 }
     ensures code { IfOk result (λ instrs. listed code.now ≡ Ok instrs) }
+    ensures rising { IfOk result AreRising }
     ensures few { IfOk result (λ instrs. length instrs ≤ length code.now) }
     ensures refused { IfErr result (NotListed code.now) }
 {
@@ -75,23 +77,20 @@ fn list(alloc: Global, code: &[u8]) -> Result<List<Instr>, CodeFault>
 
 /// The offset of the first instruction with a target at which none of them stands.
 fn first_astray(instrs: &[Instr]) -> Option<u32>
+    requires { AreRising instrs.now }
     ensures { result ≡ first_astray_of instrs.now }
 {
-    instrs
-        .iter()
-        .find(|instr| !leads_right(instrs, instr))
-        .map(|instr| instr.at)
+    for instr in instrs {
+        if !targets_begin(instrs, &instr.operand) {
+            return Some(instr.at);
+        }
+    }
+    None
 }
 
-/// Whether an instruction leads to some of these alone.
-fn leads_right(instrs: &[Instr], instr: &Instr) -> bool
-    ensures { result ≡ leads_right_of instrs.now instr.now }
-{
-    targets_begin(instrs, &instr.operand)
-}
-
-/// Whether one of the instructions stands at each target of an operand.
+/// Whether one of the instructions, whose offsets rise, stands at each target of an operand.
 pub fn targets_begin(instrs: &[Instr], operand: &Operand) -> bool
+    requires { AreRising instrs.now }
     ensures { result ≡ list_all (begins_one_of instrs.now) (targets_in operand.now) }
 {
     match operand {
@@ -103,14 +102,23 @@ pub fn targets_begin(instrs: &[Instr], operand: &Operand) -> bool
 
 /// Whether an instruction stands at each of the offsets.
 fn all_begin(instrs: &[Instr], offsets: &[u32]) -> bool
+    requires { AreRising instrs.now }
     ensures { result ≡ list_all (begins_one_of instrs.now) offsets.now }
 {
-    offsets.iter().all(|offset| begins_one(instrs, *offset))
+    for offset in offsets {
+        if !begins_one(instrs, *offset) {
+            return false;
+        }
+    }
+    true
 }
 
-/// Whether one of the instructions stands at the offset.
+/// Whether one of the instructions, whose offsets rise, stands at the offset.
 pub fn begins_one(instrs: &[Instr], offset: u32) -> bool
+    requires { AreRising instrs.now }
     ensures { result ≡ begins_one_of instrs.now offset }
 {
-    instrs.iter().any(|instr| instr.at == offset)
+    instrs
+        .binary_search_by_key(&offset, |instr| instr.at)
+        .is_ok()
 }

@@ -21,7 +21,7 @@ use Rattle.ilc_build.specs.Implements.{Implements}
 use Rattle.ilc_build.specs.declared.depths.Known.{Known}
 use Rattle.ilc_build.specs.declared.depths.Known.TheVariants.{Nothing, Depth, Clash}
 use Rattle.ilc_build.proofs.Blocks.{OnStack}
-use Rattle.ilc_build.proofs.Following.{Follow, follow, follow-few}
+use Rattle.il_code.proofs.Following.{Follow, follow, follow-few}
 use Rattle.ilc_build.proofs.Moves.{Found, found, row_is}
 use Rattle.ilc_build.proofs.Place.{length-text_of}
 use Rattle.ilc_build.proofs.Simulation.{AtInstruction, IsAt, Related, at_most, both_hold, simulates}

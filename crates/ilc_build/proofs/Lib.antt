@@ -8,7 +8,6 @@ pub mod Knowing
 pub mod Rising
 pub mod Rows
 pub mod Emitted
-pub mod Following
 pub mod Splits
 pub mod Moves
 pub mod Telling

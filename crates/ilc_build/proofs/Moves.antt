@@ -13,7 +13,7 @@ use Rattle.ilc_build.specs.Depths.{IsBelow, first_against, is_reached, is_verifi
 use Rattle.ilc_build.specs.Typing.{depth_behind, takes, tiny_max_stack}
 use Rattle.ilc_build.specs.declared.depths.Known.{Known}
 use Rattle.ilc_build.specs.declared.depths.Known.TheVariants.{Depth, Clash}
-use Rattle.ilc_build.proofs.Following.{Follow, follow, follow-few}
+use Rattle.il_code.proofs.Following.{Follow, follow, follow-few}
 use Rattle.ilc_build.proofs.Knowing.{Ways, IsNothing, IsAll, IsSame, ways}
 use Rattle.ilc_build.proofs.Place.{get_behind}
 use Rattle.ilc_build.proofs.Splits.{AreBefore, holds-here, known_here}

@@ -25,7 +25,7 @@ use Rattle.ilc_build.specs.Typing.{depth_behind, takes, tiny_max_stack}
 use Rattle.ilc_build.specs.declared.depths.Known.{Known}
 use Rattle.ilc_build.specs.declared.depths.Known.TheVariants.{Depth}
 use Rattle.ilc_build.proofs.Blocks.{OnStack, Walks, Went, went_nowhere, went_constant, went_duplicate, went_binary, went_elsewhere, went_either_way, went_home}
-use Rattle.ilc_build.proofs.Following.{follow}
+use Rattle.il_code.proofs.Following.{follow}
 use Rattle.ilc_build.proofs.Moves.{Found, Lands, inside, lands, next_place}
 use Rattle.ilc_build.proofs.Place.{BlockAt, block_at}
 use Rattle.ilc_build.proofs.Splits.{AreBefore, Parts, parts, holds-here, few_of_code, place_within}

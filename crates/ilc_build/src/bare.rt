@@ -1,6 +1,6 @@
 ghost use Rattle.std.specs.Prelude.{◌≡◌, ◌<◌, ◌^◌, not, List, [], length, IfOk, IfErr, IfSome, Ok, None, Some};
 ghost use Rattle.std.specs.List.{list_all};
-ghost use Rattle.il_code.specs.Listing.{listed, first_astray, begins_one as begins_one_of};
+ghost use Rattle.il_code.specs.Listing.{listed, first_astray, begins_one as begins_one_of, AreRising};
 ghost use Rattle.ilc_build.specs.Bare.{ReadsBare, first_past as first_past_of, IsBareCode};
 ghost use Rattle.ilc_build.specs.Refusals.{NotBare, NotBareCode, FlowGives};
 ghost use Rattle.ilc_build.specs.Depths.{IsLeast, first_against as first_against_of, has_operation, is_verified_at, is_reached as is_reached_at, leads_to};
@@ -83,7 +83,8 @@ enum Test {
 
 /// The first fault of instructions whose targets are among them.
 fn first_fault(instrs: &[Instr], table: &[Known]) -> Option<BuildFault>
-    requires { length table.now ≡ length instrs.now }
+    requires size { length table.now ≡ length instrs.now }
+    requires rising { AreRising instrs.now }
     ensures given { IfSome result (FlowGives instrs.now table.now) }
     ensures past { result ≡ None → first_past_of instrs.now table.now ≡ None }
     ensures operations { result ≡ None → first_against_of has_operation instrs.now table.now ≡ None }
@@ -103,7 +104,8 @@ fn first_fault(instrs: &[Instr], table: &[Known]) -> Option<BuildFault>
 
 /// The offset of the first instruction from which control runs past the end of the code, and 0 of empty code.
 fn first_past(instrs: &[Instr], table: &[Known]) -> Option<u32>
-    requires { length table.now ≡ length instrs.now }
+    requires size { length table.now ≡ length instrs.now }
+    requires rising { AreRising instrs.now }
     ensures { result ≡ first_past_of instrs.now table.now }
 {
     if instrs.is_empty() {
@@ -114,7 +116,8 @@ fn first_past(instrs: &[Instr], table: &[Known]) -> Option<u32>
 
 /// The first of the instructions that control comes to and that don't pass a test.
 fn first_against(test: Test, instrs: &[Instr], table: &[Known]) -> Option<u32>
-    requires { length table.now ≡ length instrs.now }
+    requires size { length table.now ≡ length instrs.now }
+    requires rising { AreRising instrs.now }
     ensures { result ≡ first_against_of (test_of test instrs.now) instrs.now table.now }
 {
     for index in 0..instrs.len() {
@@ -128,6 +131,7 @@ fn first_against(test: Test, instrs: &[Instr], table: &[Known]) -> Option<u32>
 
 /// Whether an instruction before which this is known passes a test.
 fn passes(test: Test, instrs: &[Instr], known: Known, instr: &Instr) -> bool
+    requires { AreRising instrs.now }
     ensures { result ≡ test_of test instrs.now known instr.now }
 {
     match test {
@@ -146,6 +150,7 @@ fn is_reached(known: Known) -> bool
 
 /// Whether control goes from an instruction to instructions alone.
 fn stays_inside(instrs: &[Instr], instr: &Instr) -> bool
+    requires { AreRising instrs.now }
     ensures { result ≡ list_all (begins_one_of instrs.now) (leads_to instr.now) }
 {
     match instr.operation() {

@@ -3,6 +3,7 @@ use Rattle.std.proofs.lemmas.List.{length_push}
 use Rattle.il_code.specs.Listing.{listed, listed_from}
 use Rattle.il_code.specs.declared.body.Instr.{Instr}
 use Rattle.il_code.proofs.Listed.{all_in_front, lists_on, none_stands, all_listed}
+use Rattle.il_code.proofs.Following.{listed-rising}
 use Rattle.il_code.proofs.listing.list.Goals as goal
 
 pub returns-then-at-code-clause-code : goal.returns-then-at-code-clause-code
@@ -25,3 +26,11 @@ loop-alloc-preserved c =
 pub returns-in-Ok-None-clause-refused : goal.returns-in-Ok-None-clause-refused
 returns-in-Ok-None-clause-refused c =
     none_stands c.args.code.now c.loop-alloc.instrs c.loop-alloc.at c.in-Ok-None.field-0 (listed c.args.code.now) (omega (arith, c.len.ensures, c.loop-alloc-test.true)) c.if-at-code.false c.in-Ok-None.ensures c.in-Ok-None.field-0-is c.loop-alloc.invariant.code
+
+pub returns-then-at-code-clause-rising : goal.returns-then-at-code-clause-rising
+returns-then-at-code-clause-rising c =
+    listed-rising c.args.code.now c.loop-alloc.instrs
+    (all_listed c.args.code.now c.loop-alloc.instrs c.loop-alloc.at (listed c.args.code.now) c.if-at-code.true c.loop-alloc.invariant.code)
+
+pub returns-then-at-code-2-clause-rising : goal.returns-then-at-code-2-clause-rising
+returns-then-at-code-2-clause-rising c = listed-rising c.args.code.now c.loop-alloc.instrs (search rules)

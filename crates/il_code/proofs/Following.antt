@@ -1,5 +1,5 @@
 -- The instructions of code follow one another to its end.
-use Rattle.std.proofs.Common.{◌≡◌, ℕ, zero, suc, ◌+◌, ◌<◌, ◌≤◌, Bool, true, false, cond, nat_eq, List, [], ◌∷◌, length, drop, Option, Some, None, Result, Ok, Err, refl, ap, sym, subst, arith}
+use Rattle.std.proofs.Common.{◌≡◌, ℕ, zero, suc, ◌+◌, ◌<◌, ◌≤◌, Bool, true, false, cond, nat_eq, List, [], ◌∷◌, length, drop, slice_index_or, Option, Some, None, Result, Ok, Err, refl, ap, sym, subst, arith}
 use Rattle.std.proofs.lemmas.Bool.Decides.{nat_tests}
 use Rattle.std.specs.Option.{option_map}
 use Rattle.il_code.specs.declared.body.Instr.{Instr}
@@ -7,7 +7,7 @@ use Rattle.il_code.specs.declared.body.Operand.{Operand}
 use Rattle.il_code.specs.declared.opcode.Op.{Op}
 use Rattle.il_code.specs.declared.opcode.OperandForm.{OperandForm}
 use Rattle.il_code.specs.Instructions.{instruction_at, numbered, prefixed, opcode_number, with_opcode, opcode_row, operand_of}
-use Rattle.il_code.specs.Listing.{in_front, listed, listed_at, listed_from}
+use Rattle.il_code.specs.Listing.{AreRising, in_front, listed, listed_at, listed_from}
 
 -- Instructions that stand one behind another from an offset on, the last of them before the end.
 abbrev pub Follow : ℕ → ℕ → List Instr → Type 0
@@ -89,3 +89,19 @@ follow code instrs read = follow_from (length code) code 0 instrs read
 pub follow-few : (at end : ℕ) (instrs : List Instr) → Follow at end instrs → at + length instrs ≤ end
 follow-few at end [] f = let e : at ≡ end = f in omega (arith, e)
 follow-few at end (i ∷ instrs) f = omega (arith, f.1, follow-few i.next end instrs f.2)
+
+-- and stands before those behind it
+follow-later : (at end : ℕ) (instrs : List Instr) (n : ℕ) (d : Instr) → Follow at end instrs → n < length instrs → at ≤ (slice_index_or instrs n d).at
+follow-later at end [] n d f inside = absurd (omega (arith, inside))
+follow-later at end (i ∷ instrs) zero d f inside = omega (arith, f.0)
+follow-later at end (i ∷ instrs) (suc n) d f inside = omega (arith, f.1, follow-later i.next end instrs n d f.2 (omega (arith, inside)))
+
+follow-rising : (at end : ℕ) (instrs : List Instr) → Follow at end instrs → AreRising instrs
+follow-rising at end [] f i j d le inside = absurd (omega (arith, inside))
+follow-rising at end (x ∷ instrs) f zero zero d le inside = omega arith
+follow-rising at end (x ∷ instrs) f zero (suc j) d le inside = omega (arith, f.0, f.1, follow-later x.next end instrs j d f.2 (omega (arith, inside)))
+follow-rising at end (x ∷ instrs) f (suc i) zero d le inside = absurd (omega (arith, le))
+follow-rising at end (x ∷ instrs) f (suc i) (suc j) d le inside = follow-rising x.next end instrs f.2 i j d (omega (arith, le)) (omega (arith, inside))
+
+pub listed-rising : (code : List ℕ) (instrs : List Instr) → listed code ≡ Ok instrs → AreRising instrs
+listed-rising code instrs read = follow-rising 0 (length code) instrs (follow code instrs read)

@@ -1,0 +1,28 @@
+-- A search by halves among instructions whose offsets rise.
+use Rattle.std.proofs.Common.{◌≡◌, ℕ, ◌<◌, ◌≤◌, true, false, nat_eq, eq-eqb, List, [], ◌∷◌, length, slice_index_or, Result, Ok, Err, sym, arith}
+use Rattle.std.specs.Result.{is_ok}
+use Rattle.std.specs.List.Sorted.{IsSearchInRange, IsBinarySearchResult, IsNonDecreasingBy}
+use Rattle.std.specs.Ordering.{nat_cmp, ordering_index}
+use Rattle.std.proofs.lemmas.Bool.Decides.{nat_tests}
+use Rattle.std.proofs.lemmas.Cmp.{ranked}
+use Rattle.std.proofs.lemmas.Grind.{common_steps}
+use Rattle.std.proofs.lemmas.List.Folds.{list_any_at, list_any_none}
+use Rattle.il_code.specs.Listing.{AreRising, begins_one}
+use Rattle.il_code.specs.declared.body.Instr.{Instr}
+
+-- the comparisons with an offset rise too
+comparisons_rise : (instrs : List Instr) (offset : ℕ) → AreRising instrs → IsNonDecreasingBy (λ i. ordering_index (nat_cmp i.at offset)) instrs
+comparisons_rise instrs offset rising i j d le inside = let keys : (slice_index_or instrs i d).at ≤ (slice_index_or instrs j d).at = rising i j d le inside in grind (arith, nat_tests)
+
+found_at : (instrs : List Instr) (offset n : ℕ) → n < length instrs → ((d : Instr) → (slice_index_or instrs n d).at ≡ offset) → begins_one instrs offset ≡ true
+found_at [] offset n inside here = absurd (omega (arith, inside))
+found_at (i ∷ instrs) offset n inside here = list_any_at (λ i. nat_eq i.at offset) (i ∷ instrs) n i inside (eq-eqb _ offset (here i))
+
+-- what the search tells
+pub searched : (instrs : List Instr) (offset : ℕ) (r : Result ℕ ℕ) → AreRising instrs → IsSearchInRange r (length instrs) → IsBinarySearchResult (λ i. nat_cmp i.at offset) instrs r → is_ok r ≡ begins_one instrs offset
+searched instrs offset (Ok n) rising inside equal = sym (found_at instrs offset n inside (λ d. ranked _ offset _ (sym (equal d))))
+searched instrs offset (Err n) rising inside parted =
+    let split = parted (comparisons_rise instrs offset rising) in
+    sym (list_any_none (λ i. nat_eq i.at offset) instrs (λ j d less.
+    let other : nat_eq (slice_index_or instrs j d).at offset ≡ false = grind (arith, nat_tests, common_steps, λ (below : j < n). ranked _ offset _ (sym (split.0 j d (omega arith) below)), λ (above : n ≤ j). ranked _ offset _ (sym (split.1 j d above less))) in
+    other))
