@@ -97,11 +97,11 @@ follow-later at end (i ∷ instrs) zero d f inside = omega (arith, f.0)
 follow-later at end (i ∷ instrs) (suc n) d f inside = omega (arith, f.1, follow-later i.next end instrs n d f.2 (omega (arith, inside)))
 
 follow-rising : (at end : ℕ) (instrs : List Instr) → Follow at end instrs → AreRising instrs
-follow-rising at end [] f i j d le inside = absurd (omega (arith, inside))
-follow-rising at end (x ∷ instrs) f zero zero d le inside = omega arith
-follow-rising at end (x ∷ instrs) f zero (suc j) d le inside = omega (arith, f.0, f.1, follow-later x.next end instrs j d f.2 (omega (arith, inside)))
-follow-rising at end (x ∷ instrs) f (suc i) zero d le inside = absurd (omega (arith, le))
-follow-rising at end (x ∷ instrs) f (suc i) (suc j) d le inside = follow-rising x.next end instrs f.2 i j d (omega (arith, le)) (omega (arith, inside))
+follow-rising at end [] f i j d less inside = absurd (omega (arith, inside))
+follow-rising at end (x ∷ instrs) f zero zero d less inside = absurd (omega (arith, less))
+follow-rising at end (x ∷ instrs) f zero (suc j) d less inside = omega (arith, f.0, f.1, follow-later x.next end instrs j d f.2 (omega (arith, inside)))
+follow-rising at end (x ∷ instrs) f (suc i) zero d less inside = absurd (omega (arith, less))
+follow-rising at end (x ∷ instrs) f (suc i) (suc j) d less inside = follow-rising x.next end instrs f.2 i j d (omega (arith, less)) (omega (arith, inside))
 
 pub listed-rising : (code : List ℕ) (instrs : List Instr) → listed code ≡ Ok instrs → AreRising instrs
 listed-rising code instrs read = follow-rising 0 (length code) instrs (follow code instrs read)

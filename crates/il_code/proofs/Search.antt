@@ -1,5 +1,5 @@
 -- A search by halves among instructions whose offsets rise.
-use Rattle.std.proofs.Common.{◌≡◌, ℕ, ◌<◌, ◌≤◌, true, false, nat_eq, eq-eqb, List, [], ◌∷◌, length, slice_index_or, Result, Ok, Err, sym, arith}
+use Rattle.std.proofs.Common.{◌≡◌, ◌⊎◌, inl, inr, ℕ, ◌<◌, ◌≤◌, true, false, nat_eq, eq-eqb, List, [], ◌∷◌, length, slice_index_or, Result, Ok, Err, sym, subst, arith}
 use Rattle.std.specs.Result.{is_ok}
 use Rattle.std.specs.List.Sorted.{IsSearchInRange, IsBinarySearchResult, IsNonDecreasingBy}
 use Rattle.std.specs.Ordering.{nat_cmp, ordering_index}
@@ -10,9 +10,15 @@ use Rattle.std.proofs.lemmas.List.Folds.{list_any_at, list_any_none}
 use Rattle.il_code.specs.Listing.{AreRising, begins_one}
 use Rattle.il_code.specs.declared.body.Instr.{Instr}
 
+less_or_same : (i j : ℕ) → i ≤ j → (i < j) ⊎ (i ≡ j)
+less_or_same i j le = grind (arith, le)
+
 -- the comparisons with an offset rise too
 comparisons_rise : (instrs : List Instr) (offset : ℕ) → AreRising instrs → IsNonDecreasingBy (λ i. ordering_index (nat_cmp i.at offset)) instrs
-comparisons_rise instrs offset rising i j d le inside = let keys : (slice_index_or instrs i d).at ≤ (slice_index_or instrs j d).at = rising i j d le inside in grind (arith, nat_tests)
+comparisons_rise instrs offset rising i j d le inside = elim (less_or_same i j le) [
+  | inl less ↦ let keys : (slice_index_or instrs i d).at < (slice_index_or instrs j d).at = rising i j d less inside in grind (arith, nat_tests)
+  | inr same ↦ subst (λ n. ordering_index (nat_cmp (slice_index_or instrs i d).at offset) ≤ ordering_index (nat_cmp (slice_index_or instrs n d).at offset)) same (omega arith)
+]
 
 found_at : (instrs : List Instr) (offset n : ℕ) → n < length instrs → ((d : Instr) → (slice_index_or instrs n d).at ≡ offset) → begins_one instrs offset ≡ true
 found_at [] offset n inside here = absurd (omega (arith, inside))

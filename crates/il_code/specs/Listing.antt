@@ -1,7 +1,6 @@
 -- The code of a body as a list of instructions, and where its branches lead: ECMA-335 III.1.2 and III.1.7.2.
-use Rattle.std.specs.Prelude.{◌≡◌, ℕ, zero, suc, Bool, not, ◌==◌, if◌then◌else◌, List, [], ◌∷◌, length, find, Option, Some, None, Result, Ok, Err}
+use Rattle.std.specs.Prelude.{◌≡◌, ℕ, zero, suc, ◌<◌, Bool, not, ◌==◌, if◌then◌else◌, List, [], ◌∷◌, length, slice_index_or, find, Option, Some, None, Result, Ok, Err}
 use Rattle.std.specs.List.{list_any, list_all}
-use Rattle.std.specs.List.Sorted.{IsNonDecreasingBy}
 use Rattle.std.specs.Option.{option_map}
 use Rattle.il_code.specs.Instructions.{instruction_at}
 use Rattle.il_code.specs.declared.body.Instr.{Instr}
@@ -30,9 +29,9 @@ listed_from (suc most) code at =
 abbrev pub listed : List ℕ → Result (List Instr) ℕ
 listed code = listed_from (length code) code 0
 
--- no instruction stands before an earlier one
+-- each instruction stands at a higher offset than those in front of it
 abbrev pub AreRising : List Instr → Type 0
-AreRising instrs = IsNonDecreasingBy (λ i. i.at) instrs
+AreRising instrs = (i j : ℕ) (d : Instr) → i < j → j < length instrs → (slice_index_or instrs i d).at < (slice_index_or instrs j d).at
 
 -- the offsets that an operand leads to
 abbrev pub targets_in : Operand → List ℕ

@@ -1,4 +1,4 @@
-//! Types by hand: `Pair` has row 1 and is a value type, and `List` has row 2.
+//! Types by hand: `Pair` is a value type and the first of its table, and `List` is the second.
 use crate::{
     Boxed, DictEntry, FieldName, MethodId, MethodName, Node, Part, PartKind, Prim, Slot, Ty,
     TypeId, Warning, all_variables_below, canon, canon_arguments, canon_method, canon_of_canon,
