@@ -7,7 +7,7 @@ use Rattle.std.proofs.lemmas.Bool.Decides.{nat_tests}
 use Rattle.std.proofs.lemmas.Cmp.{ranked}
 use Rattle.std.proofs.lemmas.Grind.{common_steps}
 use Rattle.std.proofs.lemmas.List.Folds.{list_any_at, list_any_none}
-use Rattle.il_code.specs.Listing.{AreRising, begins_one}
+use Rattle.il_code.specs.Listing.{AreRising, is_boundary}
 use Rattle.il_code.specs.declared.body.Instr.{Instr}
 
 less_or_same : (i j : ℕ) → i ≤ j → (i < j) ⊎ (i ≡ j)
@@ -20,12 +20,12 @@ comparisons_rise instrs offset rising i j d le inside = elim (less_or_same i j l
   | inr same ↦ subst (λ n. ordering_index (nat_cmp (slice_index_or instrs i d).at offset) ≤ ordering_index (nat_cmp (slice_index_or instrs n d).at offset)) same (omega arith)
 ]
 
-found_at : (instrs : List Instr) (offset n : ℕ) → n < length instrs → ((d : Instr) → (slice_index_or instrs n d).at ≡ offset) → begins_one instrs offset ≡ true
+found_at : (instrs : List Instr) (offset n : ℕ) → n < length instrs → ((d : Instr) → (slice_index_or instrs n d).at ≡ offset) → is_boundary instrs offset ≡ true
 found_at [] offset n inside here = absurd (omega (arith, inside))
 found_at (i ∷ instrs) offset n inside here = list_any_at (λ i. nat_eq i.at offset) (i ∷ instrs) n i inside (eq-eqb _ offset (here i))
 
 -- what the search tells
-pub searched : (instrs : List Instr) (offset : ℕ) (r : Result ℕ ℕ) → AreRising instrs → IsSearchInRange r (length instrs) → IsBinarySearchResult (λ i. nat_cmp i.at offset) instrs r → is_ok r ≡ begins_one instrs offset
+pub searched : (instrs : List Instr) (offset : ℕ) (r : Result ℕ ℕ) → AreRising instrs → IsSearchInRange r (length instrs) → IsBinarySearchResult (λ i. nat_cmp i.at offset) instrs r → is_ok r ≡ is_boundary instrs offset
 searched instrs offset (Ok n) rising inside equal = sym (found_at instrs offset n inside (λ d. ranked _ offset _ (sym (equal d))))
 searched instrs offset (Err n) rising inside parted =
     let split = parted (comparisons_rise instrs offset rising) in

@@ -40,19 +40,19 @@ targets_in (Targets offsets) = offsets
 targets_in _ = []
 
 -- one of the instructions stands at the offset
-abbrev pub begins_one : List Instr → ℕ → Bool
-begins_one instrs offset = list_any (λ i. i.at == offset) instrs
+abbrev pub is_boundary : List Instr → ℕ → Bool
+is_boundary instrs offset = list_any (λ i. i.at == offset) instrs
 
 -- the instruction leads to instructions alone
 abbrev pub leads_right : List Instr → Instr → Bool
-leads_right instrs i = list_all (begins_one instrs) (targets_in i.operand)
+leads_right instrs i = list_all (is_boundary instrs) (targets_in i.operand)
 
 -- the offset of the first instruction with a target at which none of them stands
-abbrev pub first_astray : List Instr → Option ℕ
-first_astray instrs = option_map (λ i. i.at) (find (λ i. not (leads_right instrs i)) instrs)
+abbrev pub first_bad_target : List Instr → Option ℕ
+first_bad_target instrs = option_map (λ i. i.at) (find (λ i. not (leads_right instrs i)) instrs)
 
 -- why code is no list of instructions whose targets are among them
 abbrev pub NotListed : List ℕ → CodeFault → Type 0
 NotListed code (BadOpcode offset) = listed code ≡ Err offset
-NotListed code (BadTarget offset) = (instrs : List Instr) × (listed code ≡ Ok instrs) × (first_astray instrs ≡ Some offset)
+NotListed code (BadTarget offset) = (instrs : List Instr) × (listed code ≡ Ok instrs) × (first_bad_target instrs ≡ Some offset)
 NotListed code Memory = Unit {0}

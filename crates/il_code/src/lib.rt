@@ -8,7 +8,7 @@ mod operation;
 mod read;
 
 pub use body::{Body, Clause, ClauseKind, Instr, Operand};
-pub use listing::{CodeFault, begins_one, instructions, targets_begin};
+pub use listing::{CodeFault, is_boundary, instructions, targets_begin};
 pub use opcode::{OPCODES, Op, OperandForm};
 pub use operation::{BinaryOperation, Operation};
 pub use read::{BodyFault, instruction_at, tiny_code};

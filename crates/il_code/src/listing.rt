@@ -1,5 +1,5 @@
 ghost use Rattle.std.specs.Prelude.{◌≡◌, ◌<◌, ◌≤◌, ◌^◌, length, Ok, None, IfOk, IfErr};
-ghost use Rattle.il_code.specs.Listing.{listed, begins_one as begins_one_of, targets_in, first_astray as first_astray_of, AreRising, NotListed};
+ghost use Rattle.il_code.specs.Listing.{listed, is_boundary as is_boundary_of, targets_in, first_bad_target as first_bad_target_of, AreRising, NotListed};
 ghost use Rattle.std.specs.List.{list_all};
 
 use crate::body::{Instr, Operand};
@@ -29,7 +29,7 @@ pub enum CodeFault {
 pub fn instructions(alloc: Global, code: &[u8]) -> Result<List<Instr>, CodeFault>
     requires { length code.now < 2 ^ 31 }
     ensures code { IfOk result (λ instrs. listed code.now ≡ Ok instrs) }
-    ensures targets { IfOk result (λ instrs. first_astray_of instrs ≡ None) }
+    ensures targets { IfOk result (λ instrs. first_bad_target_of instrs ≡ None) }
     ensures rising { IfOk result AreRising }
     // An instruction has one byte at least.
     ensures few { IfOk result (λ instrs. length instrs ≤ length code.now) }
@@ -39,7 +39,7 @@ pub fn instructions(alloc: Global, code: &[u8]) -> Result<List<Instr>, CodeFault
         Ok(instrs) => instrs,
         Err(fault) => return Err(fault),
     };
-    match first_astray(instrs.as_slice()) {
+    match first_bad_target(instrs.as_slice()) {
         Some(offset) => Err(CodeFault::BadTarget(offset)),
         None => Ok(instrs),
     }
@@ -76,9 +76,9 @@ fn list(alloc: Global, code: &[u8]) -> Result<List<Instr>, CodeFault>
 }
 
 /// The offset of the first instruction with a target at which none of them stands.
-fn first_astray(instrs: &[Instr]) -> Option<u32>
+fn first_bad_target(instrs: &[Instr]) -> Option<u32>
     requires { AreRising instrs.now }
-    ensures { result ≡ first_astray_of instrs.now }
+    ensures { result ≡ first_bad_target_of instrs.now }
 {
     for instr in instrs {
         if !targets_begin(instrs, &instr.operand) {
@@ -91,10 +91,10 @@ fn first_astray(instrs: &[Instr]) -> Option<u32>
 /// Whether one of the instructions, whose offsets rise, stands at each target of an operand.
 pub fn targets_begin(instrs: &[Instr], operand: &Operand) -> bool
     requires { AreRising instrs.now }
-    ensures { result ≡ list_all (begins_one_of instrs.now) (targets_in operand.now) }
+    ensures { result ≡ list_all (is_boundary_of instrs.now) (targets_in operand.now) }
 {
     match operand {
-        Operand::Target(offset) => begins_one(instrs, *offset),
+        Operand::Target(offset) => is_boundary(instrs, *offset),
         Operand::Targets(offsets) => all_begin(instrs, offsets.as_slice()),
         Operand::Nothing | Operand::Number(_) | Operand::Token(_) => true,
     }
@@ -103,10 +103,10 @@ pub fn targets_begin(instrs: &[Instr], operand: &Operand) -> bool
 /// Whether an instruction stands at each of the offsets.
 fn all_begin(instrs: &[Instr], offsets: &[u32]) -> bool
     requires { AreRising instrs.now }
-    ensures { result ≡ list_all (begins_one_of instrs.now) offsets.now }
+    ensures { result ≡ list_all (is_boundary_of instrs.now) offsets.now }
 {
     for offset in offsets {
-        if !begins_one(instrs, *offset) {
+        if !is_boundary(instrs, *offset) {
             return false;
         }
     }
@@ -114,9 +114,9 @@ fn all_begin(instrs: &[Instr], offsets: &[u32]) -> bool
 }
 
 /// Whether one of the instructions, whose offsets rise, stands at the offset.
-pub fn begins_one(instrs: &[Instr], offset: u32) -> bool
+pub fn is_boundary(instrs: &[Instr], offset: u32) -> bool
     requires { AreRising instrs.now }
-    ensures { result ≡ begins_one_of instrs.now offset }
+    ensures { result ≡ is_boundary_of instrs.now offset }
 {
     instrs
         .binary_search_by_key(&offset, |instr| instr.at)

@@ -1,5 +1,5 @@
 use crate::{
-    BinaryOperation, BodyFault, CodeFault, Instr, Op, Operand, Operation, begins_one,
+    BinaryOperation, BodyFault, CodeFault, Instr, Op, Operand, Operation, is_boundary,
     instruction_at, instructions, targets_begin, tiny_code,
 };
 use std::alloc::Global;
@@ -223,7 +223,7 @@ fn where_instructions_stand(rt: HostRuntime) -> Result<(), Fail> {
     let alloc = rt.alloc();
     let instrs = instructions(alloc, b"\x2B\x01\x00\x17\x2A")?;
     let instrs = instrs.as_slice();
-    assert!(rt; begins_one(instrs, 3) && !begins_one(instrs, 1) && !begins_one(instrs, 5));
+    assert!(rt; is_boundary(instrs, 3) && !is_boundary(instrs, 1) && !is_boundary(instrs, 5));
     assert!(rt;
         targets_begin(instrs, &Operand::Target(2)) && !targets_begin(instrs, &Operand::Target(1))
     );

@@ -13,7 +13,8 @@ use Rattle.rv_isa.specs.declared.ins.Ins.{Ins}
 use Rattle.rv_isa.specs.declared.ins.Ins.TheVariants.{Lui, Jal, Bne, Addi, Addiw, Ecall}
 use Rattle.rv_isa.specs.Operands.{IsJumpOffset, IsBranchOffset}
 use Rattle.rv_isa.specs.Instructions.{IsLegal}
-use Rattle.rv_step.specs.Machine.{MachineState, machine_step, effect, gives, register, low_bits, low_word, next_pc, request, answers}
+use Rattle.num_core.specs.Bits.{low_bits}
+use Rattle.rv_step.specs.Machine.{MachineState, machine_step, effect, gives, register, low_word, next_pc, request, answers}
 use Rattle.rv_step.specs.declared.segment.Segment.{Segment}
 use Rattle.rv_step.specs.declared.trap.Trap.{Trap}
 use Rattle.ilc_build.specs.Cil.{result_of, is_zero}

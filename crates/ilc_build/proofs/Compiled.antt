@@ -3,7 +3,7 @@ use Rattle.std.proofs.Common.{◌≡◌, ◌∙◌, ℕ, zero, suc, ◌+◌, ◌
 use Rattle.std.proofs.lemmas.List.{length-replicate}
 use Rattle.num_core.specs.Run.{Running, Streams}
 use Rattle.num_core.proofs.Runs.{keeps_step}
-use Rattle.il_code.specs.Listing.{begins_one}
+use Rattle.il_code.specs.Listing.{is_boundary}
 use Rattle.il_code.specs.declared.body.Body.{Body}
 use Rattle.il_code.specs.declared.body.Instr.{Instr}
 use Rattle.rv_step.specs.Machine.{machine_step}
@@ -42,9 +42,9 @@ short_text bytes body table reads =
 
 -- ---- the first instruction
 
-begins_first : (end : ℕ) (instrs : List Instr) (table : List Known) → Follow 0 end instrs → first_past instrs table ≡ None → begins_one instrs 0 ≡ true
+begins_first : (end : ℕ) (instrs : List Instr) (table : List Known) → Follow 0 end instrs → first_past instrs table ≡ None → is_boundary instrs 0 ≡ true
 begins_first end [] table f past = cc
-begins_first end (i ∷ instrs) table f past = ap (λ b. b || begins_one instrs 0) (eq-eqb i.at 0 f.0)
+begins_first end (i ∷ instrs) table f past = ap (λ b. b || is_boundary instrs 0) (eq-eqb i.at 0 f.0)
 
 first_place : (end : ℕ) (instrs : List Instr) (table : List Known) → Follow 0 end instrs → place_of instrs table 0 ≡ 0
 first_place end [] table f = refl

@@ -3,8 +3,10 @@ use Rattle.std.proofs.Common.{◌≡◌, ◌∙◌, ℕ, ◌+◌, ◌-◌, ◌*�
 use Rattle.std.proofs.lemmas.Bool.Decides.{nat_tests}
 use Rattle.std.proofs.lemmas.Int.{ints}
 use Rattle.std.specs.Int.{cast_signed, w32}
-use Rattle.rv_isa.specs.Operands.{signed, twos_complement, IsImmediate}
-use Rattle.rv_step.specs.Machine.{low_bits, low_word}
+use Rattle.num_core.specs.Bits.{signed, twos_complement}
+use Rattle.rv_isa.specs.Operands.{IsImmediate}
+use Rattle.num_core.specs.Bits.{low_bits}
+use Rattle.rv_step.specs.Machine.{low_word}
 use Rattle.ilc_build.specs.Code.{upper, lower}
 
 -- a word whose sign is extended to 64 bits

@@ -6,7 +6,7 @@ use Rattle.std.proofs.lemmas.Bool.Decides.{nat_tests}
 use Rattle.il_code.specs.declared.body.Body.{Body}
 use Rattle.il_code.specs.declared.body.Instr.{Instr}
 use Rattle.il_code.specs.declared.operation.Operation.{Operation}
-use Rattle.il_code.specs.Listing.{begins_one}
+use Rattle.il_code.specs.Listing.{is_boundary}
 use Rattle.ilc_build.specs.Code.{place_of, row_size}
 use Rattle.ilc_build.specs.Bare.{IsBareCode, first_past}
 use Rattle.ilc_build.specs.Depths.{IsBelow, first_against, is_reached, is_verified_at, known_at, leads_by, leads_to, operation_at, operation_leads, passed_on, row, stays_inside}
@@ -28,19 +28,19 @@ pub record Found (instrs : List Instr) (offset : ℕ) : Type 0 where
   pub earlier : AreBefore i.at done
 
 -- offsets rise
-later : (at end offset : ℕ) (instrs : List Instr) → Follow at end instrs → begins_one instrs offset ≡ true → at ≤ offset
+later : (at end offset : ℕ) (instrs : List Instr) → Follow at end instrs → is_boundary instrs offset ≡ true → at ≤ offset
 later at end offset [] f e = cc
 later at end offset (i ∷ instrs) f e = by (nat_eq i.at offset) refl e (later i.next end offset instrs f.2)
   where
-    by : (b : Bool) → nat_eq i.at offset ≡ b → (b || begins_one instrs offset) ≡ true → (begins_one instrs offset ≡ true → i.next ≤ offset) → at ≤ offset
+    by : (b : Bool) → nat_eq i.at offset ≡ b → (b || is_boundary instrs offset) ≡ true → (is_boundary instrs offset ≡ true → i.next ≤ offset) → at ≤ offset
     by true t e more = let same : i.at ≡ offset = grind (arith, nat_tests) in omega (arith, same, f.0)
     by false t e more = omega (arith, f.1, more e)
 
-pub found : (at end offset : ℕ) (instrs : List Instr) → Follow at end instrs → begins_one instrs offset ≡ true → Found instrs offset
+pub found : (at end offset : ℕ) (instrs : List Instr) → Follow at end instrs → is_boundary instrs offset ≡ true → Found instrs offset
 found at end offset [] f e = cc
 found at end offset (i ∷ instrs) f e = by (nat_eq i.at offset) refl e (found i.next end offset instrs f.2) (later i.next end offset instrs f.2)
   where
-    by : (b : Bool) → nat_eq i.at offset ≡ b → (b || begins_one instrs offset) ≡ true → (begins_one instrs offset ≡ true → Found instrs offset) → (begins_one instrs offset ≡ true → i.next ≤ offset) → Found (i ∷ instrs) offset
+    by : (b : Bool) → nat_eq i.at offset ≡ b → (b || is_boundary instrs offset) ≡ true → (is_boundary instrs offset ≡ true → Found instrs offset) → (is_boundary instrs offset ≡ true → i.next ≤ offset) → Found (i ∷ instrs) offset
     by true t e more above = let same : i.at ≡ offset = grind (arith, nat_tests) in record { done = []; i = i; rest = instrs; split = refl; here = same; earlier = tt }
     by false t e more above =
         let there : Found instrs offset = more e in
@@ -77,14 +77,14 @@ past_is [] rest i table = refl
 past_is (x ∷ done) rest i table = refl
 
 -- each offset to which a reached instruction leads begins one
-pub inside : (code : List ℕ) (body : Body) (table : List Known) (at d : ℕ) → IsBareCode code body table → (there : Found body.code at) → row table (length there.done) ≡ Depth d → AllPass (begins_one body.code) (leads_to there.i)
+pub inside : (code : List ℕ) (body : Body) (table : List Known) (at d : ℕ) → IsBareCode code body table → (there : Found body.code at) → row table (length there.done) ≡ Depth d → AllPass (is_boundary body.code) (leads_to there.i)
 inside code body table at d bare there known =
     let all : List Instr = there.done ++ there.i ∷ there.rest in
     let size : length table ≡ length all = bare.least.solution.size ∙ ap length there.split in
     let none : first_against (stays_inside all) all table ≡ None = sym (past_is there.done there.rest there.i table) ∙ ap (λ l. first_past l table) (sym there.split) ∙ bare.past in
     let holds : stays_inside all (row table (length there.done)) there.i ≡ true =
     holds-here (stays_inside all) there.done there.rest there.i table size none (ap is_reached known) in
-    AllPass-from_list_all (begins_one body.code) (leads_to there.i) (ap (λ l. list_all (begins_one l) (leads_to there.i)) there.split ∙ holds)
+    AllPass-from_list_all (is_boundary body.code) (leads_to there.i) (ap (λ l. list_all (is_boundary l) (leads_to there.i)) there.split ∙ holds)
 
 behind_is : (d : ℕ) (operation : Operation) → takes operation ≤ d → passed_on (Depth d) (Some operation) ≡ Depth (depth_behind d operation)
 behind_is d operation h = let test : nat_le (takes operation) d ≡ true = grind (arith, nat_tests) in ap (λ b. cond b (Depth (depth_behind d operation)) Clash) test
@@ -103,7 +103,7 @@ lands code body table at d operation bare there known does enough =
     ap (λ k. passed_on k (operation_at i)) known ∙ ap (passed_on (Depth d)) does ∙ behind_is d operation enough in
     let told : All (λ offset. IsBelow (Depth (depth_behind d operation)) (known_at body.code table offset)) (leads_to i) =
     subst (λ k. All (λ offset. IsBelow k (known_at body.code table offset)) (leads_to i)) passes (bare.least.solution.closed n less i here) in
-    let begin : AllPass (begins_one body.code) (leads_to i) = inside code body table at d bare there known in
+    let begin : AllPass (is_boundary body.code) (leads_to i) = inside code body table at d bare there known in
     let follows : Follow 0 (length code) body.code = follow code body.code bare.instructions in
     subst (All (λ offset. Lands body table offset (depth_behind d operation))) leads
     (λ k default h.
@@ -117,11 +117,11 @@ behind_follows at end [] rest i f = (omega (arith, f.0, f.1), f.2)
 behind_follows at end (x ∷ done) rest i f = behind_follows x.next end done rest i f.2
 
 -- no instruction begins at the end
-ends : (at end offset : ℕ) (instrs : List Instr) → Follow at end instrs → begins_one instrs offset ≡ true → offset < end
+ends : (at end offset : ℕ) (instrs : List Instr) → Follow at end instrs → is_boundary instrs offset ≡ true → offset < end
 ends at end offset [] f e = cc
 ends at end offset (i ∷ instrs) f e = by (nat_eq i.at offset) refl e (ends i.next end offset instrs f.2)
   where
-    by : (b : Bool) → nat_eq i.at offset ≡ b → (b || begins_one instrs offset) ≡ true → (begins_one instrs offset ≡ true → offset < end) → offset < end
+    by : (b : Bool) → nat_eq i.at offset ≡ b → (b || is_boundary instrs offset) ≡ true → (is_boundary instrs offset ≡ true → offset < end) → offset < end
     by true t e more = let same : i.at ≡ offset = grind (arith, nat_tests) in omega (arith, same, f.0, f.1, follow-few i.next end instrs f.2)
     by false t e more = more e
 
@@ -146,7 +146,7 @@ place_behind (x ∷ done) rest i j (k ∷ table) size earlier later next =
     omega (arith, first, there, more)
 
 -- The code of the instruction behind stands behind the code of this one.
-pub next_place : (end : ℕ) (instrs done rest : List Instr) (i : Instr) (table : List Known) → instrs ≡ done ++ i ∷ rest → Follow 0 end instrs → length table ≡ length instrs → AreBefore i.at done → begins_one instrs i.next ≡ true
+pub next_place : (end : ℕ) (instrs done rest : List Instr) (i : Instr) (table : List Known) → instrs ≡ done ++ i ∷ rest → Follow 0 end instrs → length table ≡ length instrs → AreBefore i.at done → is_boundary instrs i.next ≡ true
     → place_of instrs table i.next ≡ place_of instrs table i.at + row_size (row table (length done)) (operation_at i)
 next_place end instrs done [] i table split f size earlier begin =
     let behind : (i.at < i.next) × Follow i.next end [] = behind_follows 0 end done [] i (subst (Follow 0 end) split f) in

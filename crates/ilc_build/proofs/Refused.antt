@@ -1,7 +1,7 @@
 -- The bytes of a bare body are refused by want of memory alone.
 use Rattle.std.proofs.Common.{◌≡◌, ◌∙◌, inl, inr, ℕ, suc, ◌+◌, ◌<◌, ◌≤◌, ◌/◌, ◌%◌, min, Bool, true, false, cond, nat_eq, List, [], ◌∷◌, length, Result, Ok, Err, refl, ap, sym, subst, arith}
 use Rattle.std.proofs.lemmas.Option.{none-some}
-use Rattle.il_code.specs.Listing.{listed, first_astray}
+use Rattle.il_code.specs.Listing.{listed, first_bad_target}
 use Rattle.il_code.specs.Tiny.{tiny_body}
 use Rattle.il_code.specs.declared.body.Body.{Body}
 use Rattle.il_code.specs.declared.body.Instr.{Instr}
@@ -79,7 +79,7 @@ code_is_not_refused code body table (BadHeader offset) bare h = absurd h
 code_is_not_refused code body table (BadOpcode offset) bare h = absurd (not_both (listed code) body.code offset bare.instructions h)
 code_is_not_refused code body table (BadTarget offset) bare (inl h) =
     let instrs : h.0 ≡ body.code = one_value (listed code) h.0 body.code h.1 bare.instructions in
-    absurd (none-some offset (sym bare.targets ∙ ap first_astray (sym instrs) ∙ h.2))
+    absurd (none-some offset (sym bare.targets ∙ ap first_bad_target (sym instrs) ∙ h.2))
 code_is_not_refused code body table (BadTarget offset) bare (inr g) = absurd (none-some offset (sym bare.past ∙ flow_of code body table (BadTarget offset) bare g))
 code_is_not_refused code body table (OpcodeOutside offset) bare g =
     let f : FlowGives body.code table (OpcodeOutside offset) = flow_of code body table (OpcodeOutside offset) bare g in

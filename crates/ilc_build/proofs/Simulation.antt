@@ -11,10 +11,11 @@ use Rattle.il_code.specs.declared.body.Body.{Body}
 use Rattle.il_code.specs.declared.body.Instr.{Instr}
 use Rattle.il_code.specs.declared.operation.Operation.{Operation}
 use Rattle.il_code.specs.declared.operation.Operation.TheVariants.{NoOperation, Constant, Duplicate, Discard, Binary, Branch, BranchIfTrue, Return}
-use Rattle.il_code.specs.Listing.{begins_one}
+use Rattle.il_code.specs.Listing.{is_boundary}
 use Rattle.il_code.specs.declared.operation.BinaryOperation.{BinaryOperation}
 use Rattle.rv_isa.specs.Operands.{IsBranchOffset, IsJumpOffset}
-use Rattle.rv_step.specs.Machine.{MachineState, machine_step, low_bits}
+use Rattle.num_core.specs.Bits.{low_bits}
+use Rattle.rv_step.specs.Machine.{MachineState, machine_step}
 use Rattle.rv_step.specs.declared.segment.Segment.{Segment}
 use Rattle.rv_step.specs.declared.trap.Trap.{Trap}
 use Rattle.ilc_build.specs.Bare.{IsBareCode}
@@ -119,7 +120,7 @@ comes_to body table front text at offset place stack stack' operation m streams 
     }
 
 -- the place of the instruction behind
-place_next : (code : List ℕ) (body : Body) (table : List Known) (at d : ℕ) (operation : Operation) → IsBareCode code body table → (there : Found body.code at) → row table (length there.done) ≡ Depth d → operation_at there.i ≡ Some operation → begins_one body.code there.i.next ≡ true
+place_next : (code : List ℕ) (body : Body) (table : List Known) (at d : ℕ) (operation : Operation) → IsBareCode code body table → (there : Found body.code at) → row table (length there.done) ≡ Depth d → operation_at there.i ≡ Some operation → is_boundary body.code there.i.next ≡ true
     → place_of body.code table there.i.next ≡ place_of body.code table at + operation_size operation
 place_next code body table at d operation bare there known does begin =
     next_place (length code) body.code there.done there.rest there.i table there.split (follow code body.code bare.instructions) bare.least.solution.size there.earlier begin
@@ -136,8 +137,8 @@ follows_on code body table front text at place stack stack' operation m streams 
     let next : ℕ = there.i.next in
     let all : All (λ offset. Lands body table offset (depth_behind (length stack) operation)) (next ∷ []) =
     subst (All (λ offset. Lands body table offset (depth_behind (length stack) operation))) leads (lands code body table at (length stack) operation bare there known does enough) in
-    let begins : AllPass (begins_one body.code) (next ∷ []) = subst (AllPass (begins_one body.code)) (ap (λ o. leads_by o there.i) does ∙ leads) (inside code body table at (length stack) bare there known) in
-    let begin : begins_one body.code next ≡ true = begins 0 0 (omega arith) in
+    let begins : AllPass (is_boundary body.code) (next ∷ []) = subst (AllPass (is_boundary body.code)) (ap (λ o. leads_by o there.i) does ∙ leads) (inside code body table at (length stack) bare there known) in
+    let begin : is_boundary body.code next ≡ true = begins 0 0 (omega arith) in
     let to : Lands body table next (length stack') = subst (Lands body table next) (sym size) (all 0 0 (omega arith)) in
     comes_to body table front text at next place stack stack' operation m streams there does performs_is to went
     (here ∙ sym (place_next code body table at (length stack) operation bare there known does begin))
@@ -232,7 +233,7 @@ follows_branch_if_true code body table front text at target n stack m streams ba
     let same : length (n ∷ stack) - 1 + 0 ≡ length stack = omega arith in
     let to_next : Lands body table next (length stack) = subst (Lands body table next) same (all 0 0 (omega arith)) in
     let to_target : Lands body table target (length stack) = subst (Lands body table target) same (all 1 0 (omega arith)) in
-    let begins : AllPass (begins_one body.code) (next ∷ target ∷ []) = subst (AllPass (begins_one body.code)) (ap (λ o. leads_by o is.there.i) does) (inside code body table at (length (n ∷ stack)) bare is.there is.known) in
+    let begins : AllPass (is_boundary body.code) (next ∷ target ∷ []) = subst (AllPass (is_boundary body.code)) (ap (λ o. leads_by o is.there.i) does) (inside code body table at (length (n ∷ stack)) bare is.there is.known) in
     let behind : places next ≡ place + 3 = place_next code body table at (length (n ∷ stack)) (BranchIfTrue target) bare is.there is.known does (begins 0 0 (omega arith)) in
     let went : Went front (code_of body.code table) text (if is_zero n then suc (suc (suc place)) else places target) stack m streams =
     went_either_way place (places target) stack n streams refl few is.on (block_of code body table at (length (n ∷ stack)) (BranchIfTrue target) bare is.there is.known does) there

@@ -8,7 +8,8 @@ use Rattle.byteorder.specs.Endian.{little_bytes, little_number}
 use Rattle.byteorder.specs.Numbers.{little_number-reads_back, length-bytes_low_first}
 use Rattle.num_core.specs.Run.{Running, Streams}
 use Rattle.rv_step.specs.declared.segment.Segment.{Segment}
-use Rattle.rv_step.specs.Machine.{MachineState, register, low_bits, address, bytes_at, with_bytes_at, covers, overwritten, gives, gives_loaded, goes_on_with, next_pc, effect}
+use Rattle.num_core.specs.Bits.{low_bits}
+use Rattle.rv_step.specs.Machine.{MachineState, register, address, bytes_at, with_bytes_at, covers, overwritten, gives, gives_loaded, goes_on_with, next_pc, effect}
 use Rattle.ilc_build.specs.Code.{slot, load_slot, store_slot}
 
 -- the address of the evaluation stack

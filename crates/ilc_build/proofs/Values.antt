@@ -5,7 +5,8 @@ use Rattle.std.specs.Int.{cast_signed, w32, int_wrap, int_rem_euclid}
 use Rattle.num_core.specs.Integers.{held}
 use Rattle.num_core.specs.declared.kind.Kind.TheVariants.{I4}
 use Rattle.num_core.proofs.WrapLaws.{int_wrap-pos, int_wrap-is, int_wrap-same, int_wrap-sum, int_wrap-difference, int_wrap-product}
-use Rattle.rv_step.specs.Machine.{low_bits, low_word}
+use Rattle.num_core.specs.Bits.{low_bits}
+use Rattle.rv_step.specs.Machine.{low_word}
 
 -- what a register of 64 bits can hold
 pub low_bits-small : (z : ℤ) → low_bits 64 z < 2 ^ 64

@@ -2,7 +2,7 @@
 use Rattle.std.specs.Prelude.{◌≡◌, ℕ, ◌<◌, List, [], ◌∷◌, length, Option, Some, None, Ok}
 use Rattle.il_code.specs.declared.body.Body.{Body}
 use Rattle.il_code.specs.declared.body.Instr.{Instr}
-use Rattle.il_code.specs.Listing.{listed, first_astray}
+use Rattle.il_code.specs.Listing.{listed, first_bad_target}
 use Rattle.il_code.specs.Tiny.{tiny_body}
 use Rattle.ilc_build.specs.Depths.{IsLeast, first_against, stays_inside, has_operation, is_verified_at}
 use Rattle.ilc_build.specs.Typing.{tiny_max_stack}
@@ -18,7 +18,7 @@ first_past (i ∷ instrs) table = first_against (stays_inside (i ∷ instrs)) (i
 -- operation and doesn't fail.
 pub record IsBareCode (code : List ℕ) (body : Body) (table : List Known) : Type 0 where
   pub instructions : listed code ≡ Ok body.code
-  pub targets : first_astray body.code ≡ None
+  pub targets : first_bad_target body.code ≡ None
   pub least : IsLeast body.code table
   pub past : first_past body.code table ≡ None
   pub operations : first_against has_operation body.code table ≡ None

@@ -3,7 +3,7 @@ use Rattle.std.specs.Prelude.{ℕ, ℤ, pos, negsuc, Bool, false, if◌then◌el
 use Rattle.num_core.specs.Run.{Run, Running, Ended, Stopped, Streams, after}
 use Rattle.num_core.specs.Integers.{number, held}
 use Rattle.num_core.specs.declared.kind.Kind.TheVariants.{I4}
-use Rattle.rv_step.specs.Machine.{low_bits}
+use Rattle.num_core.specs.Bits.{low_bits}
 use Rattle.il_code.specs.declared.body.Body.{Body}
 use Rattle.il_code.specs.declared.body.Instr.{Instr}
 use Rattle.il_code.specs.declared.operation.Operation.{Operation}

@@ -12,9 +12,9 @@ use Rattle.il_code.specs.declared.operation.BinaryOperation.TheVariants.{Add, Su
 use Rattle.il_code.specs.Operations.{operation_of}
 use Rattle.rv_isa.specs.declared.ins.Ins.{Ins}
 use Rattle.rv_isa.specs.declared.ins.Ins.TheVariants.{Lui, Jal, Bne, Ld, Sd, Addi, Addiw, Addw, Subw, Mulw, Ecall}
-use Rattle.rv_isa.specs.Operands.{signed}
+use Rattle.num_core.specs.Bits.{signed}
 use Rattle.rv_isa.specs.Instructions.{word_of}
-use Rattle.rv_step.specs.Machine.{low_bits}
+use Rattle.num_core.specs.Bits.{low_bits}
 use Rattle.ilc_build.specs.Depths.{operation_at}
 use Rattle.ilc_build.specs.declared.depths.Known.{Known}
 use Rattle.ilc_build.specs.declared.depths.Known.TheVariants.{Depth}

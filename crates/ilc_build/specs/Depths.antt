@@ -1,7 +1,7 @@
 -- What is known of the stack before each instruction, where control may come to it by several ways: ECMA-335 III.1.8.
 use Rattle.std.specs.Prelude.{◌≡◌, ℕ, ◌<◌, Bool, true, false, not, ◌&&◌, nat_le, ◌==◌, is_some, if◌then◌else◌, List, [], ◌∷◌, ◌++◌, length, Option, Some, None, All, slice_index_or, slice_get}
 use Rattle.std.specs.List.{list_all}
-use Rattle.il_code.specs.Listing.{targets_in, begins_one}
+use Rattle.il_code.specs.Listing.{targets_in, is_boundary}
 use Rattle.il_code.specs.Operations.{operation_of}
 use Rattle.il_code.specs.declared.body.Instr.{Instr}
 use Rattle.il_code.specs.declared.opcode.Op.{Op}
@@ -113,7 +113,7 @@ first_against test (i ∷ instrs) (k ∷ table) =
 
 -- the instruction leads to instructions alone
 abbrev pub stays_inside : List Instr → Known → Instr → Bool
-stays_inside instrs k i = list_all (begins_one instrs) (leads_to i)
+stays_inside instrs k i = list_all (is_boundary instrs) (leads_to i)
 
 -- it has an operation
 abbrev pub has_operation : Known → Instr → Bool

@@ -1,7 +1,7 @@
 -- When bytes are no bare body.
 use Rattle.std.specs.Prelude.{◌≡◌, ◌⊎◌, ℕ, List, Some, None, Ok, Err}
 use Rattle.il_code.specs.declared.body.Instr.{Instr}
-use Rattle.il_code.specs.Listing.{listed, first_astray}
+use Rattle.il_code.specs.Listing.{listed, first_bad_target}
 use Rattle.il_code.specs.Tiny.{tiny_body}
 use Rattle.ilc_build.specs.Bare.{first_past}
 use Rattle.ilc_build.specs.Depths.{IsLeast, first_against, has_operation, is_verified_at}
@@ -24,14 +24,14 @@ FlowGives instrs table _ = ⊥
 -- what comes of the instructions of the code
 abbrev pub InstructionsGive : List ℕ → BuildFault → Type 0
 InstructionsGive code fault =
-    (instrs : List Instr) × (listed code ≡ Ok instrs) × (first_astray instrs ≡ None)
+    (instrs : List Instr) × (listed code ≡ Ok instrs) × (first_bad_target instrs ≡ None)
     × (table : List Known) × IsLeast instrs table × FlowGives instrs table fault
 
 -- The faults of code that isn't that of a bare body.
 abbrev pub NotBareCode : List ℕ → BuildFault → Type 0
 NotBareCode code (BadOpcode offset) = listed code ≡ Err offset
 NotBareCode code (BadTarget offset) =
-    ((instrs : List Instr) × (listed code ≡ Ok instrs) × (first_astray instrs ≡ Some offset))
+    ((instrs : List Instr) × (listed code ≡ Ok instrs) × (first_bad_target instrs ≡ Some offset))
     ⊎ InstructionsGive code (BadTarget offset)
 NotBareCode code (OpcodeOutside offset) = InstructionsGive code (OpcodeOutside offset)
 NotBareCode code (Unverified offset) = InstructionsGive code (Unverified offset)

@@ -1,6 +1,6 @@
 ghost use Rattle.std.specs.Prelude.{◌≡◌, ◌<◌, ◌^◌, not, List, [], length, IfOk, IfErr, IfSome, Ok, None, Some};
 ghost use Rattle.std.specs.List.{list_all};
-ghost use Rattle.il_code.specs.Listing.{listed, first_astray, begins_one as begins_one_of, AreRising};
+ghost use Rattle.il_code.specs.Listing.{listed, first_bad_target, is_boundary as is_boundary_of, AreRising};
 ghost use Rattle.ilc_build.specs.Bare.{ReadsBare, first_past as first_past_of, IsBareCode};
 ghost use Rattle.ilc_build.specs.Refusals.{NotBare, NotBareCode, FlowGives};
 ghost use Rattle.ilc_build.specs.Depths.{IsLeast, first_against as first_against_of, has_operation, is_verified_at, is_reached as is_reached_at, leads_to};
@@ -12,7 +12,7 @@ use crate::build::BuildFault;
 use crate::depths::{Known, depths, falls_through};
 use crate::typing::can_stand;
 use il_code::{
-    Body, BodyFault, CodeFault, Instr, Operation, begins_one, instructions, targets_begin,
+    Body, BodyFault, CodeFault, Instr, Operation, is_boundary, instructions, targets_begin,
     tiny_code,
 };
 use num_core::List;
@@ -151,12 +151,12 @@ fn is_reached(known: Known) -> bool
 /// Whether control goes from an instruction to instructions alone.
 fn stays_inside(instrs: &[Instr], instr: &Instr) -> bool
     requires { AreRising instrs.now }
-    ensures { result ≡ list_all (begins_one_of instrs.now) (leads_to instr.now) }
+    ensures { result ≡ list_all (is_boundary_of instrs.now) (leads_to instr.now) }
 {
     match instr.operation() {
-        Some(Operation::Branch(target)) => begins_one(instrs, target),
-        Some(Operation::BranchIfTrue(target)) => begins_one(instrs, instr.next)
-            && begins_one(instrs, target),
+        Some(Operation::Branch(target)) => is_boundary(instrs, target),
+        Some(Operation::BranchIfTrue(target)) => is_boundary(instrs, instr.next)
+            && is_boundary(instrs, target),
         Some(Operation::Return) => true,
         Some(
             Operation::NoOperation
@@ -164,8 +164,8 @@ fn stays_inside(instrs: &[Instr], instr: &Instr) -> bool
             | Operation::Duplicate
             | Operation::Discard
             | Operation::Binary(_),
-        ) => begins_one(instrs, instr.next),
-        None => (!falls_through(instr.op) || begins_one(instrs, instr.next))
+        ) => is_boundary(instrs, instr.next),
+        None => (!falls_through(instr.op) || is_boundary(instrs, instr.next))
             && targets_begin(instrs, &instr.operand),
     }
 }

@@ -1,7 +1,7 @@
 -- The formats of instruction words: RISC-V unprivileged manual, chapter RV32I, "Base Instruction Formats" and
 -- "Immediate Encoding Variants".
 use Rattle.std.specs.Prelude.{ℕ, ◌+◌, ◌-◌, ◌*◌, ◌/◌, ◌%◌, ◌^◌, ℤ, List, [], ◌∷◌}
-use Rattle.rv_isa.specs.Operands.{twos_complement}
+use Rattle.num_core.specs.Bits.{twos_complement}
 
 -- a part of a word: how many bits it takes, and the number in them
 pub record Field : Type 0 where

@@ -1,5 +1,5 @@
 -- The ranges of the operands that stand in an instruction word, and the bits that stand for a signed one.
-use Rattle.std.specs.Prelude.{◌≡◌, ℕ, suc, ◌-◌, ◌%◌, ◌^◌, ℤ, pos, negsuc, ◌≤ℤ◌, nat_lt, if◌then◌else◌}
+use Rattle.std.specs.Prelude.{◌≡◌, ℕ, ◌%◌, ℤ, pos, negsuc, ◌≤ℤ◌}
 use Rattle.std.specs.Int.RustNames.{unsigned_abs}
 
 -- a signed number of twelve bits
@@ -16,12 +16,3 @@ IsBranchOffset z = (negsuc 4095 ≤ℤ z) × (z ≤ℤ pos 4094) × IsEven z
 -- an even signed number of 21 bits
 abbrev pub IsJumpOffset : ℤ → Type 0
 IsJumpOffset z = (negsuc 1048575 ≤ℤ z) × (z ≤ℤ pos 1048574) × IsEven z
-
--- the n bits that stand for a signed number in two's complement
-abbrev pub twos_complement : ℕ → ℤ → ℕ
-twos_complement n (pos a) = a
-twos_complement n (negsuc a) = 2 ^ n - suc a
-
--- the signed number that n bits stand for in two's complement
-abbrev pub signed : ℕ → ℕ → ℤ
-signed n bits = if nat_lt bits (2 ^ (n - 1)) then pos bits else negsuc (2 ^ n - suc bits)

@@ -1,6 +1,6 @@
 -- The parts of a word: the fields of the R format, and the immediates of the other formats made of them.
 use Rattle.std.specs.Prelude.{ℕ, ◌+◌, ◌*◌, ◌/◌, ◌%◌, ◌<◌, ℤ}
-use Rattle.rv_isa.specs.Operands.{signed}
+use Rattle.num_core.specs.Bits.{signed}
 use Rattle.rv_isa.specs.Formats.{r_format}
 
 pub record Parts : Type 0 where

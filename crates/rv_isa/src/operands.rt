@@ -1,6 +1,7 @@
 ghost use Rattle.std.specs.Prelude.{◌≡◌, ◌<◌, ◌^◌, ◌%◌};
 ghost use Rattle.std.specs.Option.{SomeIff};
-ghost use Rattle.rv_isa.specs.Operands.{IsImmediate, IsBranchOffset, IsJumpOffset, signed, twos_complement};
+ghost use Rattle.num_core.specs.Bits.{signed, twos_complement};
+ghost use Rattle.rv_isa.specs.Operands.{IsImmediate, IsBranchOffset, IsJumpOffset};
 
 use std::fmt;
 use std::marker::Model;

@@ -3,6 +3,7 @@ use Rattle.std.specs.Prelude.{ℕ, zero, suc, ◌+◌, ◌-◌, ◌*◌, ◌/◌
 use Rattle.std.specs.Int.{cast_signed, int_shr, w8, w16, w32, w64}
 use Rattle.std.specs.Option.{option_map}
 use Rattle.byteorder.specs.Endian.{little_number, little_bytes}
+use Rattle.num_core.specs.Bits.{low_bits}
 use Rattle.num_core.specs.Run.{Run, Running, Ended, Stopped, Streams, after}
 use Rattle.rv_isa.specs.declared.ins.Ins.{Ins}
 use Rattle.rv_isa.specs.declared.ins.Ins.TheVariants.{Lui, Auipc, Jal, Jalr, Beq, Bne, Blt, Bge, Bltu, Bgeu, Lb, Lh, Lw, Ld, Lbu, Lhu, Lwu, Sb, Sh, Sw, Sd, Addi, Slti, Sltiu, Xori, Ori, Andi, Slli, Srli, Srai, Addiw, Slliw, Srliw, Sraiw, Add, Sll, Slt, Sltu, Xor, Srl, Or, And, Sub, Sra, Mul, Mulh, Mulhsu, Mulhu, Div, Divu, Rem, Remu, Addw, Sllw, Srlw, Subw, Sraw, Mulw, Divw, Divuw, Remw, Remuw, Ecall}
@@ -47,11 +48,6 @@ with_bytes_at allows address bytes (s ∷ segments) =
     else option_map (λ others. s ∷ others) (with_bytes_at allows address bytes segments)
 
 -- ---- numbers
-
--- The lowest bits of a whole number in two's complement.
-abbrev pub low_bits : ℕ → ℤ → ℕ
-low_bits bits (pos n) = n % 2 ^ bits
-low_bits bits (negsuc n) = 2 ^ bits - 1 - n % 2 ^ bits
 
 -- what the forms that end in W leave: the lowest 32 bits with their sign extended to 64
 abbrev pub low_word : ℤ → ℕ

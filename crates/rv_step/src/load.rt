@@ -1,5 +1,6 @@
 ghost use Rattle.std.specs.Int.{cast_signed, w8, w16, w32};
-ghost use Rattle.rv_step.specs.Machine.{loads, low_bits};
+ghost use Rattle.num_core.specs.Bits.{low_bits};
+ghost use Rattle.rv_step.specs.Machine.{loads};
 ghost use Rattle.rv_step.specs.Steps.{Does};
 
 use crate::machine::Machine;

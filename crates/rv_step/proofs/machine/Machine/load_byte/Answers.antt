@@ -1,6 +1,6 @@
 use Rattle.std.proofs.Common.{◌∙◌, ap}
 use Rattle.std.specs.Int.{cast_signed, w8}
-use Rattle.rv_step.specs.Machine.{low_bits}
+use Rattle.num_core.specs.Bits.{low_bits}
 use Rattle.rv_step.proofs.Effects.{load_done, first_byte}
 use Rattle.rv_step.proofs.machine.Machine.load_byte.Goals as goal
 

@@ -1,6 +1,6 @@
 use Rattle.std.proofs.Common.{◌∙◌, ap}
 use Rattle.std.specs.Int.{cast_signed, w32}
-use Rattle.rv_step.specs.Machine.{low_bits}
+use Rattle.num_core.specs.Bits.{low_bits}
 use Rattle.rv_step.proofs.Effects.{load_done}
 use Rattle.rv_step.proofs.machine.Machine.load_word.Goals as goal
 

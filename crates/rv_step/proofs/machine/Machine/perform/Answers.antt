@@ -3,7 +3,8 @@ use Rattle.std.proofs.Common.{◌≡◌, ◌∙◌, ◌*◌, ◌/◌, ◌%◌, �
 use Rattle.std.specs.Int.{cast_signed, int_shr, w8, w16, w32}
 use Rattle.std.specs.Int.RustNames.{bit_and, bit_or, bit_xor, int_lt}
 use Rattle.rv_isa.specs.declared.ins.Ins.TheVariants.{Lui, Auipc, Jal, Jalr, Beq, Bne, Blt, Bge, Bltu, Bgeu, Lb, Lh, Lw, Ld, Lbu, Lhu, Lwu, Sb, Sh, Sw, Sd, Addi, Slti, Sltiu, Xori, Ori, Andi, Slli, Srli, Srai, Addiw, Slliw, Srliw, Sraiw, Add, Sll, Slt, Sltu, Xor, Srl, Or, And, Sub, Sra, Mul, Mulh, Mulhsu, Mulhu, Div, Divu, Rem, Remu, Addw, Sllw, Srlw, Subw, Sraw, Mulw, Divw, Divuw, Remw, Remuw}
-use Rattle.rv_step.specs.Machine.{register, address, gives, jumps, branches, loads, stores, low_bits, low_word, one_if, without_bit_0, signed_value, word_value, signed_word_value, upper_bits, quotient, remainder, unsigned_quotient, unsigned_remainder, word_quotient, word_remainder, unsigned_word_quotient, unsigned_word_remainder}
+use Rattle.num_core.specs.Bits.{low_bits}
+use Rattle.rv_step.specs.Machine.{register, address, gives, jumps, branches, loads, stores, low_word, one_if, without_bit_0, signed_value, word_value, signed_word_value, upper_bits, quotient, remainder, unsigned_quotient, unsigned_remainder, word_quotient, word_remainder, unsigned_word_quotient, unsigned_word_remainder}
 use Rattle.rv_step.specs.Steps.{Does}
 use Rattle.rv_step.proofs.Effects.{same_instruction}
 use Rattle.rv_step.proofs.machine.Machine.perform.Goals as goal

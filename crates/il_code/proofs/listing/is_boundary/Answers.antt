@@ -1,7 +1,7 @@
 use Rattle.std.proofs.Common.{rules, ◌∙◌}
 use Rattle.std.proofs.lemmas.List.Sorted.{answers_always}
 use Rattle.il_code.proofs.Search.{searched}
-use Rattle.il_code.proofs.listing.begins_one.Goals as goal
+use Rattle.il_code.proofs.listing.is_boundary.Goals as goal
 
 pub returns : goal.returns
 returns c =
