@@ -30,7 +30,8 @@ quotient_mag h (negsuc a) (negsuc zero) l apart =
     omega (arith, div-le_self (suc a) 1)
 quotient_mag h (negsuc a) (negsuc (suc b)) l apart = halved a b h l
 
-pub quotient_lies : (signed : Bool) (w : Width) (x y : ℤ) → IsTrue (lies_in signed w x) → IsTrue (lies_in signed w y) → (x ≡ least signed w → ¬ (y ≡ negsuc 0)) → IsTrue (lies_in signed w (int_div x y))
+pub quotient_lies : (signed : Bool) (w : Width) (x y : ℤ) → IsTrue (lies_in signed w x) → IsTrue (lies_in signed w y)
+    → (x ≡ least signed w → ¬ (y ≡ negsuc 0)) → IsTrue (lies_in signed w (int_div x y))
 quotient_lies true w x y p q apart =
     let f = fits_from_lies w x p in
     lies_from_fits w (int_div x y) (record { sfits = quotient_mag (2 ^ hbits w) x y f.sfits apart })
@@ -40,7 +41,8 @@ quotient_lies false w (pos a) (pos b) p q apart =
 quotient_lies false w (pos a) (negsuc b) p q apart = absurd (false≢true q)
 quotient_lies false w (negsuc a) y p q apart = absurd (false≢true p)
 
-pub remainder_lies : (signed : Bool) (w : Width) (x y : ℤ) → IsTrue (lies_in signed w x) → IsTrue (lies_in signed w (int_rem x y))
+pub remainder_lies : (signed : Bool) (w : Width) (x y : ℤ) → IsTrue (lies_in signed w x)
+    → IsTrue (lies_in signed w (int_rem x y))
 remainder_lies true w x y p =
     let f = fits_from_lies w x p in
     lies_from_fits w (int_rem x y) (record { sfits = omega (arith, mag_rem x y, f.sfits) })
@@ -51,22 +53,26 @@ remainder_lies false w (pos a) y p =
 remainder_lies false w (negsuc a) y p = absurd (false≢true p)
 
 -- the numbers of two values are the least and -1 only where the kind has a sign, and the values are those
-least_by_minus_one : (kind : Kind) (a b : ℤ) → number kind a ≡ least (is_signed kind) (width kind) → number kind b ≡ negsuc 0 → IsLeastByMinusOne kind a b
+least_by_minus_one : (kind : Kind) (a b : ℤ) → number kind a ≡ least (is_signed kind) (width kind)
+    → number kind b ≡ negsuc 0 → IsLeastByMinusOne kind a b
 least_by_minus_one I4 a b e d = (refl, e, d)
 least_by_minus_one U4 a b e d = cc
 least_by_minus_one I8 a b e d = (refl, e, d)
 least_by_minus_one U8 a b e d = cc
 
 -- the quotient of the least number by -1 is above the greatest
-out_of_range : (kind : Kind) (a b : ℤ) → IsLeastByMinusOne kind a b → in_range kind (int_div (number kind a) (number kind b)) ≡ false
+out_of_range : (kind : Kind) (a b : ℤ) → IsLeastByMinusOne kind a b
+    → in_range kind (int_div (number kind a) (number kind b)) ≡ false
 out_of_range I4 a b h = ap (λ z. in_range I4 (int_div z b)) h.1 ∙ ap (λ z. in_range I4 (int_div (least true w32) z)) h.2
 out_of_range U4 a b h = absurd (false≢true h.0)
 out_of_range I8 a b h = ap (λ z. in_range I8 (int_div z b)) h.1 ∙ ap (λ z. in_range I8 (int_div (least true w64) z)) h.2
 out_of_range U8 a b h = absurd (false≢true h.0)
 
-pub quotient_in_range : (kind : Kind) (a b : ℤ) → IsOfKind kind a → IsOfKind kind b → InRange kind (int_div (number kind a) (number kind b)) ↔ ¬ (IsLeastByMinusOne kind a b)
+pub quotient_in_range : (kind : Kind) (a b : ℤ) → IsOfKind kind a → IsOfKind kind b
+    → InRange kind (int_div (number kind a) (number kind b)) ↔ ¬ (IsLeastByMinusOne kind a b)
 quotient_in_range kind a b f g = (
   λ inside h. false≢true (sym (out_of_range kind a b h) ∙ inside),
-  λ other. quotient_lies (is_signed kind) (width kind) (number kind a) (number kind b) (reading_lies (is_signed kind) (width kind) a f)
+  λ other. quotient_lies (is_signed kind) (width kind) (number kind a) (number kind b)
+      (reading_lies (is_signed kind) (width kind) a f)
       (reading_lies (is_signed kind) (width kind) b g) (λ e d. other (least_by_minus_one kind a b e d)),
 )

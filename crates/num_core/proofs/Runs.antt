@@ -7,7 +7,8 @@ use Rattle.std.proofs.lemmas.List.{length_push}
 use Rattle.num_core.specs.Run.{Run, Running, Ended, Stopped, Streams, one_more, after, Same, KeepsStep, Through, LooksTheSame}
 
 -- n steps and then m more are m + n steps
-pub after-add : {State Cause : Type 0} (step : State → Streams → Run State Cause) (m n : ℕ) (run : Run State Cause) → after step (m + n) run ≡ after step m (after step n run)
+pub after-add : {State Cause : Type 0} (step : State → Streams → Run State Cause) (m n : ℕ) (run : Run State Cause)
+    → after step (m + n) run ≡ after step m (after step n run)
 after-add step zero n run =
     let e : 0 + n ≡ n = omega arith in
     ap (λ k. after step k run) e
@@ -16,41 +17,63 @@ after-add step (suc m) n run =
     ap (λ k. after step k run) e ∙ ap (one_more step) (after-add step m n run)
 
 -- a run that has ended stays so
-pub after-ended : {State Cause : Type 0} (step : State → Streams → Run State Cause) (n status : ℕ) (streams : Streams) → after step n (Ended status streams) ≡ Ended status streams
+pub after-ended : {State Cause : Type 0} (step : State → Streams → Run State Cause) (n status : ℕ) (streams : Streams)
+    → after step n (Ended status streams) ≡ Ended status streams
 after-ended step zero status streams = refl
 after-ended step (suc n) status streams = ap (one_more step) (after-ended step n status streams)
 
 -- a run that can't go on stays so
-pub after-stopped : {State Cause : Type 0} (step : State → Streams → Run State Cause) (n : ℕ) (cause : Cause) (streams : Streams) → after step n (Stopped cause streams) ≡ Stopped cause streams
+pub after-stopped : {State Cause : Type 0} (step : State → Streams → Run State Cause) (n : ℕ) (cause : Cause)
+    (streams : Streams) → after step n (Stopped cause streams) ≡ Stopped cause streams
 after-stopped step zero cause streams = refl
 after-stopped step (suc n) cause streams = ap (one_more step) (after-stopped step n cause streams)
 
 -- The relation R leads from each step of the first program to one or more steps of the second, and to no more than
 -- `most`.
-pub record Simulates {State Cause State' Cause' : Type 0} (step : State → Streams → Run State Cause) (step' : State' → Streams → Run State' Cause') (R : Run State Cause → Run State' Cause' → Type 0) (most : ℕ) : Type 0 where
-  pub goes : (a : Run State Cause) (b : Run State' Cause') → R a b → (k : ℕ) × (suc k ≤ most) × R (one_more step a) (after step' (suc k) b)
+pub record Simulates {State Cause State' Cause' : Type 0} (step : State → Streams → Run State Cause)
+    (step' : State' → Streams → Run State' Cause') (R : Run State Cause → Run State' Cause' → Type 0) (most : ℕ)
+    : Type 0 where
+  pub goes : (a : Run State Cause) (b : Run State' Cause') → R a b → (k : ℕ) × (suc k ≤ most)
+      × R (one_more step a) (after step' (suc k) b)
 
 -- the moment of the second run that belongs to the first after n steps, where the relation holds
-tracked : {State Cause State' Cause' : Type 0} (step : State → Streams → Run State Cause) (step' : State' → Streams → Run State' Cause') (R : Run State Cause → Run State' Cause' → Type 0) (most : ℕ) → Simulates step step' R most → (a : Run State Cause) (b : Run State' Cause') → R a b → (n : ℕ) → (moment : ℕ) × R (after step n a) (after step' moment b)
+tracked : {State Cause State' Cause' : Type 0} (step : State → Streams → Run State Cause)
+    (step' : State' → Streams → Run State' Cause') (R : Run State Cause → Run State' Cause' → Type 0) (most : ℕ)
+    → Simulates step step' R most → (a : Run State Cause) (b : Run State' Cause') → R a b → (n : ℕ) → (moment : ℕ)
+    × R (after step n a) (after step' moment b)
 tracked step step' R most simulates a b related zero = (0, related)
 tracked step step' R most simulates a b related (suc n) =
-    let before : (moment : ℕ) × R (after step n a) (after step' moment b) = tracked step step' R most simulates a b related n in
-    let next : (k : ℕ) × (suc k ≤ most) × R (one_more step (after step n a)) (after step' (suc k) (after step' before.0 b)) = simulates.goes _ _ before.1 in
+    let before : (moment : ℕ) × R (after step n a) (after step' moment b) =
+        tracked step step' R most simulates a b related n in
+    let next : (k : ℕ) × (suc k ≤ most)
+        × R (one_more step (after step n a)) (after step' (suc k) (after step' before.0 b)) =
+        simulates.goes _ _ before.1 in
     (suc next.0 + before.0, subst (R (after step (suc n) a)) (sym (after-add step' (suc next.0) before.0 b)) next.2)
 
 -- the next moment lies one to `most` steps behind
-tracked-suc : {State Cause State' Cause' : Type 0} (step : State → Streams → Run State Cause) (step' : State' → Streams → Run State' Cause') (R : Run State Cause → Run State' Cause' → Type 0) (most : ℕ) (simulates : Simulates step step' R most) (a : Run State Cause) (b : Run State' Cause') (related : R a b) (n : ℕ) → (k : ℕ) × (suc k ≤ most) × ((tracked step step' R most simulates a b related (suc n)).0 ≡ suc k + (tracked step step' R most simulates a b related n).0)
+tracked-suc : {State Cause State' Cause' : Type 0} (step : State → Streams → Run State Cause)
+    (step' : State' → Streams → Run State' Cause') (R : Run State Cause → Run State' Cause' → Type 0) (most : ℕ)
+    (simulates : Simulates step step' R most) (a : Run State Cause) (b : Run State' Cause') (related : R a b) (n : ℕ)
+    → (k : ℕ) × (suc k ≤ most) × ((tracked step step' R most simulates a b related (suc n)).0 ≡ suc k
+    + (tracked step step' R most simulates a b related n).0)
 unfolding tracked
 tracked-suc {State} {Cause} {State'} {Cause'} step step' R most simulates a b related n =
-    let before : (moment : ℕ) × R (after step n a) (after step' moment b) = tracked step step' R most simulates a b related n in
-    let next : (k : ℕ) × (suc k ≤ most) × R (one_more step (after step n a)) (after step' (suc k) (after step' before.0 b)) = simulates.goes _ _ before.1 in
+    let before : (moment : ℕ) × R (after step n a) (after step' moment b) =
+        tracked step step' R most simulates a b related n in
+    let next : (k : ℕ) × (suc k ≤ most)
+        × R (one_more step (after step n a)) (after step' (suc k) (after step' before.0 b)) =
+        simulates.goes _ _ before.1 in
     (next.0, next.1, refl)
 
 -- Where single steps are simulated, whole runs are.
-pub keeps_step : {State Cause State' Cause' : Type 0} (step : State → Streams → Run State Cause) (step' : State' → Streams → Run State' Cause') (R : Run State Cause → Run State' Cause' → Type 0) (most : ℕ) (simulates : Simulates step step' R most) (a : Run State Cause) (b : Run State' Cause') (related : R a b) → KeepsStep (λ _. R) (λ _. most) (λ i. after step i a) (λ m. after step' m b)
+pub keeps_step : {State Cause State' Cause' : Type 0} (step : State → Streams → Run State Cause)
+    (step' : State' → Streams → Run State' Cause') (R : Run State Cause → Run State' Cause' → Type 0) (most : ℕ)
+    (simulates : Simulates step step' R most) (a : Run State Cause) (b : Run State' Cause') (related : R a b)
+    → KeepsStep (λ _. R) (λ _. most) (λ i. after step i a) (λ m. after step' m b)
 keeps_step step step' R most simulates a b related =
     let moment : ℕ → ℕ = λ n. (tracked step step' R most simulates a b related n).0 in
-    let behind : (n : ℕ) → (k : ℕ) × (suc k ≤ most) × (moment (suc n) ≡ suc k + moment n) = tracked-suc step step' R most simulates a b related in
+    let behind : (n : ℕ) → (k : ℕ) × (suc k ≤ most)
+        × (moment (suc n) ≡ suc k + moment n) = tracked-suc step step' R most simulates a b related in
     let same : (n : ℕ) → moment (n + 1) ≡ moment (suc n) = λ n. let e : n + 1 ≡ suc n = omega arith in ap moment e in
     record {
       moment = moment;
@@ -62,9 +85,13 @@ keeps_step step step' R most simulates a b related =
 -- ---- from the relation to what follows from it
 
 -- what R gives holds at the same moments
-pub keeps_step_by : {State Cause State' Cause' : Type 0} (R R' : ℕ → Run State Cause → Run State' Cause' → Type 0) → ((i : ℕ) (a : Run State Cause) (b : Run State' Cause') → R i a b → R' i a b) → (most : ℕ → ℕ) (first : ℕ → Run State Cause) (second : ℕ → Run State' Cause') → KeepsStep R most first second → KeepsStep R' most first second
+pub keeps_step_by : {State Cause State' Cause' : Type 0} (R R' : ℕ → Run State Cause → Run State' Cause' → Type 0)
+    → ((i : ℕ) (a : Run State Cause) (b : Run State' Cause') → R i a b → R' i a b)
+    → (most : ℕ → ℕ) (first : ℕ → Run State Cause) (second : ℕ → Run State' Cause') → KeepsStep R most first second
+    → KeepsStep R' most first second
 keeps_step_by R R' gives most first second kept =
-    record { moment = kept.moment; rising = kept.rising; within = kept.within; related = λ i. gives i _ _ (kept.related i) }
+    record { moment = kept.moment; rising = kept.rising; within = kept.within; related =
+        λ i. gives i _ _ (kept.related i) }
 
 -- what rises from each number to the next rises from each to any later one
 rises-by : (f : ℕ → ℕ) → ((i : ℕ) → f i < f (i + 1)) → (m d : ℕ) → f m < f (m + suc d)
@@ -103,7 +130,8 @@ product-grows d e k less =
     let whole : (d + (e - d)) * k ≡ e * k = ap (λ n. n * k) sum in
     omega (arith, parts, whole)
 
-grows : (f : ℕ → ℕ) (k : ℕ) → ((i : ℕ) → f (i + 1) ≤ f i + k) → (m n most : ℕ) → m < n → n ≤ m + most → f n ≤ f m + most * k
+grows : (f : ℕ → ℕ) (k : ℕ) → ((i : ℕ) → f (i + 1) ≤ f i + k) → (m n most : ℕ) → m < n → n ≤ m + most
+    → f n ≤ f m + most * k
 grows f k within m n most less near =
     let sum : m + (n - m) ≡ n = omega arith in
     let same : f (m + (n - m)) ≡ f n = ap f sum in
@@ -113,17 +141,23 @@ grows f k within m n most less near =
 
 -- Two runs one after the other: where the second keeps step with the first and the third with the second, the third
 -- keeps step with the first.
-pub keeps_step_through : {State Cause State' Cause' State'' Cause'' : Type 0} (R : ℕ → Run State Cause → Run State' Cause' → Type 0) (R' : ℕ → Run State' Cause' → Run State'' Cause'' → Type 0) (most : ℕ → ℕ) (k : ℕ) (first : ℕ → Run State Cause) (second : ℕ → Run State' Cause') (third : ℕ → Run State'' Cause'') → KeepsStep R most first second → KeepsStep R' (λ _. k) second third → KeepsStep (Through second R R') (λ i. most i * k) first third
+pub keeps_step_through : {State Cause State' Cause' State'' Cause'' : Type 0}
+    (R : ℕ → Run State Cause → Run State' Cause' → Type 0) (R' : ℕ → Run State' Cause' → Run State'' Cause'' → Type 0)
+    (most : ℕ → ℕ) (k : ℕ) (first : ℕ → Run State Cause) (second : ℕ → Run State' Cause')
+    (third : ℕ → Run State'' Cause'') → KeepsStep R most first second → KeepsStep R' (λ _. k) second third
+    → KeepsStep (Through second R R') (λ i. most i * k) first third
 keeps_step_through R R' most k first second third one two =
     record {
       moment = λ i. two.moment (one.moment i);
       rising = λ i. rises two.moment two.rising (one.moment i) (one.moment (i + 1)) (one.rising i);
-      within = λ i. grows two.moment k two.within (one.moment i) (one.moment (i + 1)) (most i) (one.rising i) (one.within i);
+      within = λ i. grows two.moment k two.within (one.moment i) (one.moment (i + 1)) (most i) (one.rising i)
+          (one.within i);
       related = λ i. (one.moment i, one.related i, two.related (one.moment i));
     }
 
 -- runs that look the same as one between them look the same
-pub same_through : {State Cause State' Cause' State'' Cause'' : Type 0} (a : Run State Cause) (b : Run State' Cause') (c : Run State'' Cause'') → Same a b → Same b c → Same a c
+pub same_through : {State Cause State' Cause' State'' Cause'' : Type 0} (a : Run State Cause) (b : Run State' Cause')
+    (c : Run State'' Cause'') → Same a b → Same b c → Same a c
 same_through (Running _ _) (Running _ _) (Running _ _) one two = one ∙ two
 same_through (Ended _ _) (Ended _ _) (Ended _ _) one two = (one.0 ∙ two.0, one.1 ∙ two.1)
 same_through (Running _ _) (Running _ _) (Ended _ _) one two = two
@@ -146,7 +180,8 @@ moments_of moment (suc n) = moments_of moment n ++ moment (suc n) ∷ []
 length-moments : (moment : ℕ → ℕ) (n : ℕ) → length (moments_of moment n) ≡ suc n
 unfolding moments_of
 length-moments moment zero = refl
-length-moments moment (suc n) = length_push (moments_of moment n) (moment (suc n)) ∙ omega (arith, length-moments moment n)
+length-moments moment (suc n) = length_push (moments_of moment n) (moment (suc n))
+    ∙ omega (arith, length-moments moment n)
 
 -- the cases of a number up to suc n
 up_to_last : (i n : ℕ) → i ≤ suc n → (i ≤ n) ⊎ (i ≡ suc n)
@@ -154,19 +189,22 @@ up_to_last i n h = grind arith
 
 moment_at : (moment : ℕ → ℕ) (n i : ℕ) → i ≤ n → slice_index (moments_of moment n) i ≡ moment i
 unfolding moments_of
-moment_at moment zero i h = let e : i ≡ 0 = omega arith in subst (λ j. slice_index (moment 0 ∷ []) j ≡ moment j) (sym e) refl
+moment_at moment zero i h = let e : i ≡ 0 = omega arith in
+    subst (λ j. slice_index (moment 0 ∷ []) j ≡ moment j) (sym e) refl
 moment_at moment (suc n) i h =
     let ms : List ℕ = moments_of moment n in
     let m : ℕ = moment (suc n) in
     let count : length ms ≡ suc n = length-moments moment n in
-    let last : slice_index (ms ++ m ∷ []) (suc n) ≡ m = ap (λ k. slice_index (ms ++ m ∷ []) k) (sym count) ∙ get_or-append_seam ms m [] 0 in
+    let last : slice_index (ms ++ m ∷ []) (suc n) ≡ m = ap (λ k. slice_index (ms ++ m ∷ []) k) (sym count)
+        ∙ get_or-append_seam ms m [] 0 in
     elim (up_to_last i n h) [
       | inl le ↦ get_or-append ms (m ∷ []) 0 i (omega (arith, count)) ∙ moment_at moment n i le
       | inr e ↦ subst (λ j. slice_index (ms ++ m ∷ []) j ≡ moment j) (sym e) last
     ]
 
 -- Where what is related looks the same, there is the list of moments for each n.
-pub looks_the_same : {State Cause State' Cause' : Type 0} (most : ℕ → ℕ) (first : ℕ → Run State Cause) (second : ℕ → Run State' Cause') → KeepsStep (λ _. Same) most first second → (n : ℕ) → LooksTheSame first second n
+pub looks_the_same : {State Cause State' Cause' : Type 0} (most : ℕ → ℕ) (first : ℕ → Run State Cause)
+    (second : ℕ → Run State' Cause') → KeepsStep (λ _. Same) most first second → (n : ℕ) → LooksTheSame first second n
 looks_the_same most first second kept n =
     let at : (i : ℕ) → i ≤ n → slice_index (moments_of kept.moment n) i ≡ kept.moment i = moment_at kept.moment n in
     record {

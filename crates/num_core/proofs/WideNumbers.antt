@@ -20,11 +20,14 @@ wide_fits z h = let l = h.low in let r = h.high in omega (arith, ints)
 
 pub wide_number : (kind : Kind) (a : ℤ) → FitsSigned (width kind) a → IsWide (number kind a)
 wide_number I4 a f = record { low = omega (arith, ints); high = omega (arith, ints) }
-wide_number U4 a f = let h = (of_z_fits w32 a f).fits in record { low = omega (arith, ints); high = omega (arith, ints) }
+wide_number U4 a f = let h = (of_z_fits w32 a f).fits in
+    record { low = omega (arith, ints); high = omega (arith, ints) }
 wide_number I8 a f = record { low = omega (arith, ints); high = omega (arith, ints) }
-wide_number U8 a f = let h = (of_z_fits w64 a f).fits in record { low = omega (arith, ints); high = omega (arith, ints) }
+wide_number U8 a f = let h = (of_z_fits w64 a f).fits in
+    record { low = omega (arith, ints); high = omega (arith, ints) }
 
-module _ (kind : Kind) (a r : ℤ) (fits : FitsSigned (width kind) a) (range : FitsSigned w64 a) (is : r ≡ number kind (to_z w64 (of_z w64 a))) where
+module _ (kind : Kind) (a r : ℤ) (fits : FitsSigned (width kind) a) (range : FitsSigned w64 a)
+    (is : r ≡ number kind (to_z w64 (of_z w64 a))) where
   pub number_is : r ≡ number kind a
   number_is = is ∙ ap (number kind) (to_z-of_z w64 a range)
 
@@ -49,9 +52,11 @@ module _ (x y p q : ℤ) (wide_x : IsWide x) (wide_y : IsWide y) (px : p ≡ x) 
 
 -- a number of a kind fits, so a product that does not fit is out of range
 pub in_range_fits : (kind : Kind) (z : ℤ) → IsTrue (in_range kind z) → FitsSigned w128 z
-in_range_fits kind z h = by kind (and_parts (int_le (least (is_signed kind) (width kind)) z) (int_le z (greatest (is_signed kind) (width kind))) h)
+in_range_fits kind z h = by kind (and_parts (int_le (least (is_signed kind) (width kind)) z)
+    (int_le z (greatest (is_signed kind) (width kind))) h)
   where
-    by : (kind : Kind) → (IsTrue (int_le (least (is_signed kind) (width kind)) z)) × (IsTrue (int_le z (greatest (is_signed kind) (width kind)))) → FitsSigned w128 z
+    by : (kind : Kind) → (IsTrue (int_le (least (is_signed kind) (width kind)) z))
+        × (IsTrue (int_le z (greatest (is_signed kind) (width kind)))) → FitsSigned w128 z
     by I4 b = let l = b.0 in let r = b.1 in omega (arith, ints)
     by U4 b = let l = b.0 in let r = b.1 in omega (arith, ints)
     by I8 b = let l = b.0 in let r = b.1 in omega (arith, ints)

@@ -1,4 +1,5 @@
--- Integers (ECMA-335 I.12.1 and III.1.5): an operation is that of whole numbers, whose result is then wrapped, or refused where it is out of range.
+-- Integers (ECMA-335 I.12.1 and III.1.5): an operation is that of whole numbers, whose result is then wrapped, or
+-- refused where it is out of range.
 --     number kind a      the whole number that the held value a stands for
 --     held kind z        the value that holds the whole number z, wrapped
 --     checked kind z     the same, or None where z is out of the kind's range
@@ -90,7 +91,8 @@ IsLeastByMinusOne kind a b = IsTrue (is_signed kind) × (a ≡ least true (width
 abbrev pub shift_amount : Kind → ℤ → ℕ
 shift_amount kind amount = cast_unsigned w64 amount % bits (width kind)
 
--- to the left the number is multiplied by 2 ^ k; to the right it is read as the operation says, and divided, rounded down
+-- to the left the number is multiplied by 2 ^ k; to the right it is read as the operation says, and divided, rounded
+-- down
 abbrev pub shifted : ShiftOp → Kind → ℤ → ℕ → ℤ
 shifted Left kind a k = held kind (number kind a *ℤ pos (2 ^ k))
 shifted Right kind a k = int_div_euclid a (pos (2 ^ k))

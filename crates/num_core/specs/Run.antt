@@ -34,19 +34,23 @@ Same _ _ = ⊥
 
 -- For each i the second run has a moment at which R holds of i, the first run after i steps and the second run then.
 -- Each moment lies behind the one before, by at most so many steps of the second run.
-pub record KeepsStep {State Cause State' Cause' : Type 0} (R : ℕ → Run State Cause → Run State' Cause' → Type 0) (most : ℕ → ℕ) (first : ℕ → Run State Cause) (second : ℕ → Run State' Cause') : Type 0 where
+pub record KeepsStep {State Cause State' Cause' : Type 0} (R : ℕ → Run State Cause → Run State' Cause' → Type 0)
+    (most : ℕ → ℕ) (first : ℕ → Run State Cause) (second : ℕ → Run State' Cause') : Type 0 where
   pub moment : ℕ → ℕ
   pub rising : (i : ℕ) → moment i < moment (i + 1)
   pub within : (i : ℕ) → moment (i + 1) ≤ moment i + most i
   pub related : (i : ℕ) → R i (first i) (second (moment i))
 
 -- what two relations say of the first run and the third, by a moment of the run between them
-abbrev pub Through : {State Cause State' Cause' State'' Cause'' : Type 0} → (ℕ → Run State' Cause') → (ℕ → Run State Cause → Run State' Cause' → Type 0) → (ℕ → Run State' Cause' → Run State'' Cause'' → Type 0) → ℕ → Run State Cause → Run State'' Cause'' → Type 0
+abbrev pub Through : {State Cause State' Cause' State'' Cause'' : Type 0} → (ℕ → Run State' Cause')
+    → (ℕ → Run State Cause → Run State' Cause' → Type 0) → (ℕ → Run State' Cause' → Run State'' Cause'' → Type 0) → ℕ
+    → Run State Cause → Run State'' Cause'' → Type 0
 Through between R R' i a c = (j : ℕ) × R i a (between j) × R' j (between j) c
 
 -- For this n there are moments m(0) < m(1) < .. < m(n) of the second run at which it looks the same as the first run
 -- after 0, 1, .. n steps.
-pub record LooksTheSame {State Cause State' Cause' : Type 0} (first : ℕ → Run State Cause) (second : ℕ → Run State' Cause') (n : ℕ) : Type 0 where
+pub record LooksTheSame {State Cause State' Cause' : Type 0} (first : ℕ → Run State Cause)
+    (second : ℕ → Run State' Cause') (n : ℕ) : Type 0 where
   pub moments : List ℕ
   pub count : length moments ≡ n + 1
   pub rising : (i : ℕ) → i < n → slice_index moments i < slice_index moments (i + 1)

@@ -9,4 +9,5 @@ pub returns-clause-number_of_type_kept : goal.returns-clause-number_of_type_kept
 returns-clause-number_of_type_kept c = λ to z h. wrapped-inside (is_signed_type to) (width_of_type to) z h
 
 pub returns-clause-number_of_type_held : goal.returns-clause-number_of_type_held
-returns-clause-number_of_type_held c = λ to z h. reading-inside (is_signed (kind_of_type to)) (width (kind_of_type to)) z (in_range-kind_of_type to z h)
+returns-clause-number_of_type_held c =
+    λ to z h. reading-inside (is_signed (kind_of_type to)) (width (kind_of_type to)) z (in_range-kind_of_type to z h)

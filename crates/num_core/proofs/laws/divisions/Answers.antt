@@ -7,4 +7,6 @@ pub returns-clause-quotient_in_range : goal.returns-clause-quotient_in_range
 returns-clause-quotient_in_range c = λ kind a b f g. quotient_in_range kind a b f g
 
 pub returns-clause-remainder_in_range : goal.returns-clause-remainder_in_range
-returns-clause-remainder_in_range c = λ kind a b f. remainder_lies (is_signed kind) (width kind) (number kind a) (number kind b) (reading_lies (is_signed kind) (width kind) a f)
+returns-clause-remainder_in_range c =
+    λ kind a b f. remainder_lies (is_signed kind) (width kind) (number kind a) (number kind b)
+    (reading_lies (is_signed kind) (width kind) a f)
