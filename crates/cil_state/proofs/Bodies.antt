@@ -1,6 +1,7 @@
 -- What small bodies do, by computing.
 use Rattle.std.proofs.Common.{◌≡◌, ◌∙◌, ℕ, zero, suc, ◌+◌, ◌≤◌, List, [], ◌∷◌, Result, Ok, pos, ap, arith, refl, subst}
 use Rattle.std.proofs.Common.{sym}
+use Rattle.std.specs.Int.{int_wrap}
 use Rattle.num_core.specs.Run.{Ended, Run, Running, Stopped, Streams, after, one_more}
 use Rattle.il_code.specs.Instructions.{opcode_row}
 use Rattle.il_code.specs.Listing.{listed}
@@ -51,6 +52,7 @@ difference_reads = refl
 
 pub difference : (body : Body) (input : List ℕ) → listed (0x1D ∷ 0x1B ∷ 0x59 ∷ 0x2A ∷ []) ≡ Ok body.code →
     cil_run body input 4 ≡ Ended 2 (begun input)
+unfolding int_wrap
 difference body input reads =
     subst (λ code. cil_run (record body { code = code }) input 4 ≡ Ended 2 (begun input))
     (one_reading (listed (0x1D ∷ 0x1B ∷ 0x59 ∷ 0x2A ∷ [])) difference_code body.code difference_reads reads) refl
