@@ -17,7 +17,8 @@ use Rattle.num_core.specs.Bits.{low_bits}
 use Rattle.rv_step.specs.Machine.{MachineState, machine_step, effect, gives, register, low_word, next_pc, request, answers}
 use Rattle.rv_step.specs.declared.segment.Segment.{Segment}
 use Rattle.rv_step.specs.declared.trap.Trap.{Trap}
-use Rattle.ilc_build.specs.Cil.{result_of, is_zero}
+use Rattle.cil_state.specs.Arithmetic.{result_of}
+use Rattle.cil_state.specs.Branches.{is_zero}
 use Rattle.ilc_build.specs.Code.{upper, lower, stack_address, load_slot, store_slot, binary_instruction, no_operation, distance, operation_code}
 use Rattle.ilc_build.proofs.Constants.{constant_value, lower_is_immediate}
 use Rattle.ilc_build.proofs.Place.{StandsAt, BlockAt, steps_at, stands_next, within}

@@ -1,30 +1,34 @@
 -- The file of a body's code does what the body does.
 use Rattle.std.proofs.Common.{◌≡◌, ◌∙◌, ℕ, zero, suc, ◌+◌, ◌*◌, ◌<◌, ◌≤◌, Bool, true, false, not, ◌&&◌, cond, nat_eq, nat_le, eq-eqb, ◌||◌, List, [], ◌∷◌, ◌++◌, length, arith, refl, ap, sym, subst, Ok, Option, Some, None, length-append, replicate, All}
 use Rattle.std.proofs.lemmas.List.{length-replicate}
-use Rattle.num_core.specs.Run.{Running, Streams}
+use Rattle.num_core.specs.Run.{KeepsStep, Run, Running, Streams, after}
 use Rattle.num_core.proofs.Runs.{keeps_step}
 use Rattle.il_code.specs.Listing.{is_boundary}
 use Rattle.il_code.specs.declared.body.Body.{Body}
 use Rattle.il_code.specs.declared.body.Instr.{Instr}
-use Rattle.rv_step.specs.Machine.{machine_step}
+use Rattle.rv_step.specs.Machine.{MachineState, machine_step}
+use Rattle.rv_step.specs.declared.trap.Trap.{Trap}
 use Rattle.elf_file.specs.declared.layout.ElfLayout.{ElfLayout}
-use Rattle.elf_file.specs.Elf.{loaded, machine_of, headers_of, text_segment, rest_segment, base}
+use Rattle.elf_file.specs.Elf.{loaded, file_of, machine_of, headers_of, text_segment, rest_segment, base}
+use Rattle.rv_isa.specs.declared.ins.Ins.{Ins}
 use Rattle.ilc_build.specs.Bare.{ReadsBare, first_past}
-use Rattle.ilc_build.specs.Cil.{cil_step, cil_start}
+use Rattle.cil_state.specs.State.{CilCause, CilState}
+use Rattle.cil_state.specs.Step.{cil_step, cil_start}
 use Rattle.ilc_build.specs.Code.{code_of, IsInt32Instr, place_of, row_size, text_of}
 use Rattle.ilc_build.specs.Depths.{can_be_done, first_against, is_reached, is_verified_at, operation_at, row}
 use Rattle.ilc_build.specs.Raising.{IsShallow}
 use Rattle.ilc_build.specs.Typing.{can_stand, tiny_max_stack}
 use Rattle.il_code.specs.declared.operation.Operation.{Operation}
 use Rattle.il_code.specs.declared.operation.Operation.TheVariants.{NoOperation, Constant, Duplicate, Discard, Binary, Branch, BranchIfTrue, Return}
-use Rattle.ilc_build.specs.Implements.{Implements}
+use Rattle.ilc_build.specs.File.{IsFileOf, layout_of}
+use Rattle.ilc_build.specs.Implements.{Implements, most_steps}
 use Rattle.ilc_build.specs.declared.depths.Known.{Known}
 use Rattle.ilc_build.specs.declared.depths.Known.TheVariants.{Nothing, Depth, Clash}
 use Rattle.ilc_build.proofs.Blocks.{OnStack}
 use Rattle.il_code.proofs.Following.{Follow, follow, follow-few}
 use Rattle.ilc_build.proofs.Moves.{Found, found, row_is}
 use Rattle.ilc_build.proofs.Place.{length-text_of}
-use Rattle.ilc_build.proofs.Simulation.{AtInstruction, IsAt, Related, at_most, both_hold, simulates}
+use Rattle.ilc_build.proofs.Simulation.{AtInstruction, IsAt, Related, alike, at_most, both_hold, simulates}
 use Rattle.ilc_build.proofs.Splits.{few_of_code}
 
 -- ---- the size of the text
@@ -98,12 +102,30 @@ implements bytes body table reads layout elf front text entry zeros constants lo
     record {
       machine = machine_of layout;
       loads = loads;
-      keeps_step = λ input n.
+      keeps_step = λ input.
           let streams : Streams = record { input = input; output = []; error = [] } in
-          keeps_step (cil_step body) machine_step (Related body table (headers_of layout) (text_segment layout))
+          let a : Run CilState CilCause = Running cil_start streams in
+          let b : Run MachineState Trap = Running (machine_of layout) streams in
+          let R : Run CilState CilCause → Run MachineState Trap → Type 0 = Related body table (headers_of layout) (text_segment layout) in
+          let keeps : KeepsStep (λ _. R) (λ _. most_steps) (λ i. after (cil_step body) i a) (λ m. after machine_step m b) =
+          keeps_step (cil_step body) machine_step R most_steps
           (simulates reads.code body table (headers_of layout) (text_segment layout) reads.bare (few_instructions bytes body table reads) constants)
-          (Running cil_start streams) (Running (machine_of layout) streams)
-          (AtInstruction 0 [] (machine_of layout) streams (first_instruction bytes body table reads layout (starts bytes body table reads layout front text entry zeros))) n;
+          a b
+          (AtInstruction 0 [] (machine_of layout) streams (first_instruction bytes body table reads layout (starts bytes body table reads layout front text entry zeros))) in
+          record {
+            moment = keeps.moment;
+            rising = keeps.rising;
+            within = keeps.within;
+            related = λ i. alike body table (headers_of layout) (text_segment layout) _ _ (keeps.related i);
+          };
+    }
+
+-- The file of the layout of a code is the file of the code.
+pub file_is : (layout : ElfLayout) (code : List Ins) (elf : List ℕ) → layout ≡ layout_of (text_of code) → elf ≡ file_of layout → loaded elf ≡ Ok (machine_of layout) → IsFileOf code elf
+file_is layout code elf is bytes loads =
+    record {
+      bytes = bytes ∙ ap file_of is;
+      segments = loads ∙ ap (λ l. Ok (machine_of l)) is;
     }
 
 -- ---- each depth is at most that under a tiny header

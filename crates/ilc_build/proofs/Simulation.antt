@@ -19,9 +19,13 @@ use Rattle.rv_step.specs.Machine.{MachineState, machine_step}
 use Rattle.rv_step.specs.declared.segment.Segment.{Segment}
 use Rattle.rv_step.specs.declared.trap.Trap.{Trap}
 use Rattle.ilc_build.specs.Bare.{IsBareCode}
-use Rattle.ilc_build.specs.Cil.{CilState, CilCause, cil_step, Frame, Slot, Int32, is_zero, on_instruction, performs, result_of}
+use Rattle.cil_state.specs.State.{CilState, CilCause, Frame, Slot, Int32}
+use Rattle.cil_state.specs.Arithmetic.{result_of}
+use Rattle.cil_state.specs.Branches.{is_zero}
+use Rattle.cil_state.specs.Step.{cil_step, on_instruction, performs}
 use Rattle.ilc_build.specs.Code.{IsInt32Instr, LoadsInt32, code_of, code_from, distance, operation_code, operation_size, place_of, row_code, row_size}
 use Rattle.ilc_build.specs.Depths.{can_be_done, first_against, is_reached, is_verified_at, leads_by, operation_at, operation_leads, row}
+use Rattle.ilc_build.specs.Implements.{most_steps}
 use Rattle.ilc_build.specs.Typing.{depth_behind, takes, tiny_max_stack}
 use Rattle.ilc_build.specs.declared.depths.Known.{Known}
 use Rattle.ilc_build.specs.declared.depths.Known.TheVariants.{Depth}
@@ -320,11 +324,13 @@ follows code body table front text at stack m streams bare short loads is =
     by (Some operation) e can = follows_operation code body table front text at operation stack m streams bare short (loads_here body at operation loads is.there e) is e can
 
 -- From related states, one step of the body is 1 to 24 steps of the machine to related states.
-pub goes : (code : List ℕ) (body : Body) (table : List Known) (front : List ℕ) (text : Segment) → IsBareCode code body table → length body.code < 64 → All IsInt32Instr body.code → (a : Run CilState CilCause) (b : Run MachineState Trap) → Related body table front text a b → (count : ℕ) × Related body table front text (one_more (cil_step body) a) (after machine_step (suc count) b)
+pub goes : (code : List ℕ) (body : Body) (table : List Known) (front : List ℕ) (text : Segment) → IsBareCode code body table → length body.code < 64 → All IsInt32Instr body.code → (a : Run CilState CilCause) (b : Run MachineState Trap) → Related body table front text a b
+    → (count : ℕ) × (suc count ≤ most_steps) × Related body table front text (one_more (cil_step body) a) (after machine_step (suc count) b)
 goes code body table front text bare short loads _ _ (AtInstruction at stack m streams is) =
     let f : Follows body table front text (cil_step body (state_at at stack) streams) m streams = follows code body table front text at stack m streams bare short loads is in
-    (f.count, subst (Related body table front text (cil_step body (state_at at stack) streams)) (sym f.walks.runs) f.related)
-goes code body table front text bare short loads _ _ (AtEnd n streams) = (0, AtEnd n streams)
+    let few : f.count < 24 = f.few in
+    (f.count, omega arith, subst (Related body table front text (cil_step body (state_at at stack) streams)) (sym f.walks.runs) f.related)
+goes code body table front text bare short loads _ _ (AtEnd n streams) = (0, omega arith, AtEnd n streams)
 
-pub simulates : (code : List ℕ) (body : Body) (table : List Known) (front : List ℕ) (text : Segment) → IsBareCode code body table → length body.code < 64 → All IsInt32Instr body.code → Simulates (cil_step body) machine_step (Related body table front text)
-simulates code body table front text bare short loads = record { alike = alike body table front text; goes = goes code body table front text bare short loads }
+pub simulates : (code : List ℕ) (body : Body) (table : List Known) (front : List ℕ) (text : Segment) → IsBareCode code body table → length body.code < 64 → All IsInt32Instr body.code → Simulates (cil_step body) machine_step (Related body table front text) most_steps
+simulates code body table front text bare short loads = record { goes = goes code body table front text bare short loads }

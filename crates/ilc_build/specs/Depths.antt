@@ -1,5 +1,6 @@
 -- What is known of the stack before each instruction, where control may come to it by several ways: ECMA-335 III.1.8.
-use Rattle.std.specs.Prelude.{◌≡◌, ℕ, ◌<◌, Bool, true, false, not, ◌&&◌, nat_le, ◌==◌, is_some, if◌then◌else◌, List, [], ◌∷◌, ◌++◌, length, Option, Some, None, All, slice_index_or, slice_get}
+use Rattle.std.specs.Prelude.{◌≡◌, ℕ, ◌<◌, Bool, true, false, not, ◌&&◌, nat_le, ◌==◌, is_some, if◌then◌else◌, List, []}
+use Rattle.std.specs.Prelude.{◌∷◌, ◌++◌, length, Option, Some, None, All, slice_index_or, slice_get}
 use Rattle.std.specs.List.{list_all}
 use Rattle.il_code.specs.Listing.{targets_in, is_boundary}
 use Rattle.il_code.specs.Operations.{operation_of}

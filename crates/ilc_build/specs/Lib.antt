@@ -1,9 +1,9 @@
-pub mod Cil
 pub mod Typing
 pub mod Depths
 pub mod Raising
 pub mod Asked
 pub mod Code
+pub mod File
 pub mod Bare
 pub mod Refusals
 pub mod Implements

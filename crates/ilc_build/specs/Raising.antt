@@ -37,10 +37,12 @@ abbrev pub Tells : List Instr → List Known → Known → List ℕ → Type 0
 Tells instrs table known offsets = All (λ offset. IsBelow known (known_at instrs table offset)) offsets
 
 -- Rows of a table were raised so that it tells this at each of the offsets, and no more than it has to.
-pub record IsTold (instrs : List Instr) (known : Known) (offsets : List ℕ) (old new : List Known) (any : Bool) : Type 0 where
+pub record IsTold (instrs : List Instr) (known : Known) (offsets : List ℕ) (old new : List Known) (any : Bool)
+    : Type 0 where
   pub raised : Raised old new any
   pub told : Tells instrs new known offsets
-  pub below : (other : List Known) → length other ≡ length instrs → AllBelow old other → Tells instrs other known offsets → AllBelow new other
+  pub below : (other : List Known) → length other ≡ length instrs → AllBelow old other →
+      Tells instrs other known offsets → AllBelow new other
 
 -- it stays below each solution
 abbrev pub StaysBelow : List Instr → List Known → List Known → Type 0

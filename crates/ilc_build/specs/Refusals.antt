@@ -7,7 +7,8 @@ use Rattle.ilc_build.specs.Bare.{first_past}
 use Rattle.ilc_build.specs.Depths.{IsLeast, first_against, has_operation, is_verified_at}
 use Rattle.ilc_build.specs.Typing.{tiny_max_stack}
 use Rattle.ilc_build.specs.declared.build.BuildFault.{BuildFault}
-use Rattle.ilc_build.specs.declared.build.BuildFault.TheVariants.{BadHeader, BadOpcode, BadTarget, OpcodeOutside, Unverified, Memory}
+use Rattle.ilc_build.specs.declared.build.BuildFault.TheVariants.{BadHeader, BadOpcode, BadTarget, OpcodeOutside}
+use Rattle.ilc_build.specs.declared.build.BuildFault.TheVariants.{Unverified, Memory}
 use Rattle.ilc_build.specs.declared.depths.Known.{Known}
 
 -- The faults of instructions whose targets are among them, in the order in which they are looked for: control runs

@@ -3,7 +3,8 @@ ghost use Rattle.std.specs.List.{list_all};
 ghost use Rattle.il_code.specs.Listing.{listed, first_bad_target, is_boundary as is_boundary_of, AreRising};
 ghost use Rattle.ilc_build.specs.Bare.{ReadsBare, first_past as first_past_of, IsBareCode};
 ghost use Rattle.ilc_build.specs.Refusals.{NotBare, NotBareCode, FlowGives};
-ghost use Rattle.ilc_build.specs.Depths.{IsLeast, first_against as first_against_of, has_operation, is_verified_at, is_reached as is_reached_at, leads_to};
+ghost use Rattle.ilc_build.specs.Depths.{IsLeast, first_against as first_against_of, has_operation, is_verified_at};
+ghost use Rattle.ilc_build.specs.Depths.{is_reached as is_reached_at, leads_to};
 ghost use Rattle.ilc_build.specs.Asked.{test_of};
 ghost use Rattle.ilc_build.specs.Typing.{tiny_max_stack};
 ghost use Rattle.ilc_build.specs.declared.depths.Known.{Known};
@@ -12,7 +13,7 @@ use crate::build::BuildFault;
 use crate::depths::{Known, depths, falls_through};
 use crate::typing::can_stand;
 use il_code::{
-    Body, BodyFault, CodeFault, Instr, Operation, is_boundary, instructions, targets_begin,
+    Body, BodyFault, CodeFault, Instr, Operation, instructions, is_boundary, targets_begin,
     tiny_code,
 };
 use num_core::List;

@@ -44,7 +44,8 @@ pub fn build_body(alloc: Global, bytes: &[u8]) -> Result<Bytes, BuildFault>
     ensures built { IfOk result (Builds bytes.now) }
     ensures refused { IfErr result (NotBare bytes.now) }
     // The bytes of a bare body are built, or memory is wanting.
-    ensures complete { (body : Body) (table : List Known) → ReadsBare bytes.now body table → IfErr result (λ fault. fault ≡ BuildFault.Memory) }
+    ensures complete { (body : Body) (table : List Known) → ReadsBare bytes.now body table →
+        IfErr result (λ fault. fault ≡ BuildFault.Memory) }
 {
     build(alloc, bytes)
 }

@@ -1,11 +1,19 @@
-ghost use Rattle.std.specs.Prelude.{◌≡◌, ◌+◌, ◌-◌, ◌*◌, ◌<◌, ◌≤◌, ◌≤ℤ◌, ◌++◌, ◌∷◌, [], pos, negsuc, Some, slice_index_or, ℕ, List, length, All, IfOk, OnOk};
+ghost use Rattle.std.specs.Prelude.{◌≡◌, ◌+◌, ◌-◌, ◌*◌, ◌<◌, ◌≤◌, ◌≤ℤ◌, ◌++◌, ◌∷◌, [], pos, negsuc, Some};
+ghost use Rattle.std.specs.Prelude.{slice_index_or, ℕ, List, length, All, IfOk, OnOk};
 ghost use Rattle.ilc_build.specs.Bare.{ReadsBare};
+ghost use Rattle.ilc_build.specs.File.{IsFileOf, layout_of};
 ghost use Rattle.ilc_build.specs.Implements.{Implements};
 ghost use Rattle.il_code.specs.declared.body.Instr.{Instr};
 ghost use Rattle.ilc_build.specs.Depths.{operation_at, row};
 ghost use Rattle.ilc_build.specs.Raising.{IsShallow};
 ghost use Rattle.rv_isa.specs.declared.ins.Ins.{Ins};
-ghost use Rattle.ilc_build.specs.Code.{constant_code, exit_code, operation_code, row_code, place_of as place_of_offset, row_size as row_size_of, operation_size as operation_size_of, distance as distance_of, code_of, LoadsInt32, IsInt32Instr, text_of, upper as upper_of, lower as lower_of, stack_address as stack_address_is, load_slot as load_slot_is, store_slot as store_slot_is, binary_instruction as binary_instruction_is, no_operation as no_operation_is, slot as slot_is};
+ghost use Rattle.ilc_build.specs.Code.{constant_code, exit_code, operation_code, row_code, place_of as place_of_offset};
+ghost use Rattle.ilc_build.specs.Code.{row_size as row_size_of, operation_size as operation_size_of};
+ghost use Rattle.ilc_build.specs.Code.{distance as distance_of, code_of, LoadsInt32, IsInt32Instr, text_of};
+ghost use Rattle.ilc_build.specs.Code.{upper as upper_of, lower as lower_of, stack_address as stack_address_is};
+ghost use Rattle.ilc_build.specs.Code.{load_slot as load_slot_is, store_slot as store_slot_is};
+ghost use Rattle.ilc_build.specs.Code.{binary_instruction as binary_instruction_is, no_operation as no_operation_is};
+ghost use Rattle.ilc_build.specs.Code.{slot as slot_is};
 
 use crate::bare::Bare;
 use crate::depths::Known;
@@ -22,28 +30,31 @@ const STACK_PAGE: u32 = 17;
 /// The number of the environment's call that ends a program.
 const EXIT: i16 = 93;
 
-/// The zeros behind the text, in which a program has its heap and its stack.
-fn zeros(bounds: Bounds) -> u64
-    ensures value { result ≡ bounds.heap + bounds.stack }
-    ensures bound { result ≤ 335544320 }
-{
-    bounds.heap + bounds.stack
-}
-
-/// The executable file of a bare body, which does what the body does.
+/// The executable file of a bare body: that of its code, which does what the body does.
 pub(crate) fn compile(alloc: Global, bare: &Bare) -> Result<Bytes, Memory>
     requires { (bytes : List ℕ) × ReadsBare bytes bare.now.body bare.now.table.items }
-    ensures { IfOk result (Implements bare.now.body) }
+    ensures file { IfOk result (IsFileOf (code_of bare.now.body.code bare.now.table.items)) }
+    ensures implements { IfOk result (Implements bare.now.body) }
 {
     let code = code(alloc, bare.body.code.as_slice(), bare.table.as_slice())?;
     let text = text(alloc, code.as_slice())?;
-    let layout = ElfLayout {
+    let layout = layout(alloc, text);
+    write_elf(alloc, &layout)
+}
+
+/// What the executable file of a text is made of: the text, and zeros in which the program has its heap and its stack.
+#[tactic(auto, unfolding(crate::specs::File::heap_size, crate::specs::File::stack_size))]
+fn layout(alloc: Global, text: Bytes) -> ElfLayout
+    ensures value { result ≡ layout_of text }
+    ensures zeros { result.zeros ≡ 9437184 }
+{
+    let bounds = Bounds::standard();
+    ElfLayout {
         text,
         rest: List::new(alloc),
-        zeros: zeros(Bounds::standard()),
+        zeros: bounds.heap + bounds.stack,
         entry: TEXT_AT,
-    };
-    write_elf(alloc, &layout)
+    }
 }
 
 /// The instructions of a machine for those of a body.
@@ -73,7 +84,9 @@ fn emit_instr(
     requires shallow { (n : ℕ) → IsShallow 8 (row table.now n) }
     requires short { length code.old.items < 512 }
     requires within { index < length instrs.now }
-    ensures code { OnOk result ((i : Instr) → code.new.items ≡ code.old.items ++ row_code (place_of_offset instrs.now table.now) (length code.old.items) (row table.now index) (operation_at (slice_index_or instrs.now index i))) }
+    ensures code { OnOk result ((i : Instr) → code.new.items ≡ code.old.items
+        ++ row_code (place_of_offset instrs.now table.now) (length code.old.items)
+        (row table.now index) (operation_at (slice_index_or instrs.now index i))) }
     ensures constant { (i : Instr) → IsInt32Instr (slice_index_or instrs.now index i) }
 {
     match instrs[index].operation() {
@@ -94,7 +107,8 @@ fn emit_row(
     requires size { length table.now ≡ length instrs.now }
     requires shallow { IsShallow 8 known }
     requires short { length code.old.items < 512 }
-    ensures code { OnOk result (code.new.items ≡ code.old.items ++ row_code (place_of_offset instrs.now table.now) (length code.old.items) known (Some operation)) }
+    ensures code { OnOk result (code.new.items ≡ code.old.items
+        ++ row_code (place_of_offset instrs.now table.now) (length code.old.items) known (Some operation)) }
     ensures constant { LoadsInt32 operation }
 {
     match known {
@@ -115,7 +129,8 @@ fn emit(
     requires size { length table.now ≡ length instrs.now }
     requires shallow { depth ≤ 8 }
     requires short { length code.old.items < 512 }
-    ensures code { OnOk result (code.new.items ≡ code.old.items ++ operation_code (place_of_offset instrs.now table.now) (length code.old.items) depth operation) }
+    ensures code { OnOk result (code.new.items ≡ code.old.items
+        ++ operation_code (place_of_offset instrs.now table.now) (length code.old.items) depth operation) }
     ensures constant { LoadsInt32 operation }
 {
     match operation {
@@ -190,7 +205,8 @@ fn distance(from: u32, to: u32) -> i32
 fn emit_branch(code: &mut Vec<Ins>, target: u32) -> Result<(), Memory>
     requires short { length code.old.items < 512 }
     requires target { target < 512 }
-    ensures { OnOk result (code.new.items ≡ code.old.items ++ Ins.Jal 0 (distance_of (length code.old.items) target) ∷ []) }
+    ensures { OnOk result (code.new.items ≡ code.old.items
+        ++ Ins.Jal 0 (distance_of (length code.old.items) target) ∷ []) }
 {
     let imm = JumpOffset::of(distance(code.len() as u32, target));
     code.push(Ins::Jal { rd: x0(), imm })?;
@@ -202,7 +218,9 @@ fn emit_branch_if_true(code: &mut Vec<Ins>, depth: u32, target: u32) -> Result<(
     requires short { length code.old.items < 512 }
     requires target { target < 512 }
     requires depth { depth < 128 }
-    ensures { OnOk result (code.new.items ≡ code.old.items ++ stack_address_is ∷ load_slot_is 6 (depth - 1) ∷ Ins.Bne 6 0 (distance_of (length code.old.items + 2) target) ∷ []) }
+    ensures { OnOk result (code.new.items ≡ code.old.items
+        ++ stack_address_is ∷ load_slot_is 6 (depth - 1)
+        ∷ Ins.Bne 6 0 (distance_of (length code.old.items + 2) target) ∷ []) }
 {
     let imm = BranchOffset::of(distance(code.len() as u32 + 2, target) as i16);
     code.push(stack_address())?;
@@ -218,7 +236,8 @@ fn emit_branch_if_true(code: &mut Vec<Ins>, depth: u32, target: u32) -> Result<(
 /// A constant comes on top of the stack.
 fn emit_load_constant(code: &mut Vec<Ins>, depth: u32, number: i32) -> Result<(), Memory>
     requires { depth < 128 }
-    ensures code { OnOk result (code.new.items ≡ code.old.items ++ operation_code (λ offset. offset) 0 depth (Operation.Constant number)) }
+    ensures code { OnOk result (code.new.items ≡ code.old.items
+        ++ operation_code (λ offset. offset) 0 depth (Operation.Constant number)) }
     ensures constant { LoadsInt32 (Operation.Constant number) }
 {
     emit_constant(code, t1(), number)?;
@@ -230,7 +249,8 @@ fn emit_load_constant(code: &mut Vec<Ins>, depth: u32, number: i32) -> Result<()
 /// The top of the stack comes on it once more.
 fn emit_duplicate(code: &mut Vec<Ins>, depth: u32) -> Result<(), Memory>
     requires { depth < 128 }
-    ensures { OnOk result (code.new.items ≡ code.old.items ++ operation_code (λ offset. offset) 0 depth Operation.Duplicate) }
+    ensures { OnOk result (code.new.items ≡ code.old.items
+        ++ operation_code (λ offset. offset) 0 depth Operation.Duplicate) }
 {
     code.push(stack_address())?;
     code.push(load_slot(t1(), depth.saturating_sub(1)))?;
@@ -241,7 +261,8 @@ fn emit_duplicate(code: &mut Vec<Ins>, depth: u32) -> Result<(), Memory>
 /// What the two values on top of the stack give takes their place.
 fn emit_binary(code: &mut Vec<Ins>, depth: u32, operation: BinaryOperation) -> Result<(), Memory>
     requires { depth < 128 }
-    ensures { OnOk result (code.new.items ≡ code.old.items ++ operation_code (λ offset. offset) 0 depth (Operation.Binary operation)) }
+    ensures { OnOk result (code.new.items ≡ code.old.items
+        ++ operation_code (λ offset. offset) 0 depth (Operation.Binary operation)) }
 {
     code.push(stack_address())?;
     code.push(load_slot(t1(), depth.saturating_sub(2)))?;
@@ -254,7 +275,8 @@ fn emit_binary(code: &mut Vec<Ins>, depth: u32, operation: BinaryOperation) -> R
 /// The program ends with the low byte of the top of the stack.
 fn emit_return(code: &mut Vec<Ins>, depth: u32) -> Result<(), Memory>
     requires { depth < 128 }
-    ensures { OnOk result (code.new.items ≡ code.old.items ++ operation_code (λ offset. offset) 0 depth Operation.Return) }
+    ensures { OnOk result (code.new.items ≡ code.old.items
+        ++ operation_code (λ offset. offset) 0 depth Operation.Return) }
 {
     code.push(stack_address())?;
     code.push(load_slot(a0(), depth.saturating_sub(1)))?;

@@ -1,7 +1,10 @@
-ghost use Rattle.std.specs.Prelude.{◌≡◌, ◌≢◌, ◌<◌, ◌≤◌, ◌+◌, ◌*◌, ◌^◌, ◌∷◌, ◌++◌, [], ℕ, length, replicate, true, false, List, IfOk};
+ghost use Rattle.std.specs.Prelude.{◌≡◌, ◌≢◌, ◌<◌, ◌≤◌, ◌+◌, ◌*◌, ◌^◌, ◌∷◌, ◌++◌, [], ℕ, length, replicate, true};
+ghost use Rattle.std.specs.Prelude.{false, List, IfOk};
 ghost use Rattle.il_code.specs.Listing.{targets_in};
 ghost use Rattle.ilc_build.specs.declared.depths.Known.{Known};
-ghost use Rattle.ilc_build.specs.Depths.{join as join_of, passed_on as passed_on_of, falls_through as falls_through_of, known_at, row, next_of, leads_to, operation_leads, IsBelow, AllBelow, IsLeast, IsClosedAt};
+ghost use Rattle.ilc_build.specs.Depths.{join as join_of, passed_on as passed_on_of, falls_through as falls_through_of};
+ghost use Rattle.ilc_build.specs.Depths.{known_at, row, next_of, leads_to, operation_leads, IsBelow, AllBelow, IsLeast};
+ghost use Rattle.ilc_build.specs.Depths.{IsClosedAt};
 ghost use Rattle.ilc_build.specs.Raising.{ranks, IsShallow, AreShallow, IsTold, Raised, StaysBelow};
 
 use crate::typing::{depth_behind, takes};
@@ -230,7 +233,8 @@ fn raise_row(table: &mut [Known], index: usize, known: Known) -> bool
     ensures raised { Raised table.old table.new result }
     ensures tells { IsBelow known (row table.new index) }
     ensures others { (n : ℕ) → n ≢ index → row table.new n ≡ row table.old n }
-    ensures below { (other : List Known) → AllBelow table.old other → IsBelow known (row other index) → AllBelow table.new other }
+    ensures below { (other : List Known) → AllBelow table.old other → IsBelow known (row other index) →
+        AllBelow table.new other }
 {
     let joined = join(table[index], known);
     if joined == table[index] {

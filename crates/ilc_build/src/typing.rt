@@ -1,5 +1,6 @@
 ghost use Rattle.std.specs.Prelude.{◌≡◌, ◌+◌, ◌<◌, ◌≤◌, ◌^◌};
-ghost use Rattle.ilc_build.specs.Typing.{can_stand as can_stand_on, takes as takes_of, leaves as leaves_of, depth_behind as depth_behind_of};
+ghost use Rattle.ilc_build.specs.Typing.{can_stand as can_stand_on, takes as takes_of, leaves as leaves_of};
+ghost use Rattle.ilc_build.specs.Typing.{depth_behind as depth_behind_of};
 
 use il_code::Operation;
 
