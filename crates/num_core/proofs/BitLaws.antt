@@ -36,7 +36,7 @@ module _ (op : ℕ → ℕ → ℕ) (shr : (a b k : ℕ) → op a b / 2 ^ k ≡ 
     (low : (a b k : ℕ) → op a b % 2 ^ k ≡ op (a % 2 ^ k) (b % 2 ^ k))
     (below : (a b : ℕ) → a < 2 ^ 64 → b < 2 ^ 64 → op a b < 2 ^ 64)
     (zeros : op 0 0 ≡ 0) (right : (op 0 (2 ^ 33 - 1) ≡ 0) ⊎ (op 0 (2 ^ 33 - 1) ≡ 2 ^ 33 - 1))
-        (left : (op (2 ^ 33 - 1) 0 ≡ 0) ⊎ (op (2 ^ 33 - 1) 0 ≡ 2 ^ 33 - 1))
+    (left : (op (2 ^ 33 - 1) 0 ≡ 0) ⊎ (op (2 ^ 33 - 1) 0 ≡ 2 ^ 33 - 1))
     (ones : (op (2 ^ 33 - 1) (2 ^ 33 - 1) ≡ 0) ⊎ (op (2 ^ 33 - 1) (2 ^ 33 - 1) ≡ 2 ^ 33 - 1)) where
   one_of : (m n x y : ℕ) → m / 2 ^ 31 ≡ x → n / 2 ^ 31 ≡ y → (op x y ≡ 0) ⊎ (op x y ≡ 2 ^ 33 - 1) → IsExtended (op m n)
   one_of m n x y p q (inl e) = inl (shr m n 31 ∙ (λ i. op (p i) (q i)) ∙ e)
@@ -55,11 +55,11 @@ module _ (op : ℕ → ℕ → ℕ) (shr : (a b k : ℕ) → op a b / 2 ^ k ≡ 
       let m = cast_unsigned w64 a in
       let n = cast_unsigned w64 b in
       let under = below m n (of_z_fits w64 a (fits_wider w32 w64 a (lit≤ tt) f)).fits
-          (of_z_fits w64 b (fits_wider w32 w64 b (lit≤ tt) g)).fits in
+      (of_z_fits w64 b (fits_wider w32 w64 b (lit≤ tt) g)).fits in
       sym (int_wrap_fits w32 (cast_signed w64 (op m n)) (fits (op m n) under (kept m n (extended a f) (extended b g))))
       ∙ int_wrap-cast_signed w32 w64 (op m n) (lit≤ tt) under
       ∙ ap (cast_signed w32) (low m n 32 ∙
-          (λ i. op (cast_unsigned-low w32 w64 a (lit≤ tt) f i) (cast_unsigned-low w32 w64 b (lit≤ tt) g i)))
+      (λ i. op (cast_unsigned-low w32 w64 a (lit≤ tt) f i) (cast_unsigned-low w32 w64 b (lit≤ tt) g i)))
 
 pub and_of_word : (a b : ℤ) → FitsSigned w32 a → FitsSigned w32 b → int_bit_and w64 a b ≡ int_bit_and w32 a b
 and_of_word = as_word bit_and and_shr and_mod (λ a b. and_lt 64 a b) (and_zero_l 0) (inl (and_zero_l (2 ^ 33 - 1)))
@@ -84,6 +84,6 @@ not_of_word a f =
     let under : 2 ^ 64 - 1 - n < 2 ^ 64 = omega arith in
     let low : (2 ^ 64 - 1 - n) % 2 ^ 32 ≡ 2 ^ 32 - 1 - n % 2 ^ 32 = omega arith in
     sym (int_wrap_fits w32 (cast_signed w64 (2 ^ 64 - 1 - n))
-        (fits (2 ^ 64 - 1 - n) under (flipped n h (extended a f))))
+    (fits (2 ^ 64 - 1 - n) under (flipped n h (extended a f))))
     ∙ int_wrap-cast_signed w32 w64 (2 ^ 64 - 1 - n) (lit≤ tt) under
     ∙ ap (cast_signed w32) (low ∙ ap (λ m. 2 ^ 32 - 1 - m) (cast_unsigned-low w32 w64 a (lit≤ tt) f))

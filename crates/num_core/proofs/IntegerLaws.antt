@@ -39,7 +39,7 @@ pub lies_from_below : (w : Width) (n : ℕ) → n < 2 ^ bits w → IsTrue (lies_
 lies_from_below w n h =
     let high : n ≤ 2 ^ bits w - 1 = omega arith in
     and_from (int_le (pos 0) (pos n)) (int_le (pos n) (greatest false w)) (le-leb 0 n (omega arith))
-        (le-leb n (2 ^ bits w - 1) high)
+    (le-leb n (2 ^ bits w - 1) high)
 
 pub below_from_lies : (w : Width) (z : ℤ) → IsTrue (lies_in false w z) → (z ≡ pos (unsigned_abs z))
     × (unsigned_abs z < 2 ^ bits w)
@@ -191,7 +191,7 @@ number-wrapped_to_type to z =
     let kind = kind_of_type to in
     let inside = wrapped_lies (is_signed_type to) (width_of_type to) z in
     reading-inside (is_signed kind) (width kind) (wrapped_to_type to z)
-        (in_range-kind_of_type to (wrapped_to_type to z) inside)
+    (in_range-kind_of_type to (wrapped_to_type to z) inside)
 
 -- 0 is read as 0
 pub number-zero : (kind : Kind) → number kind (pos 0) ≡ pos 0

@@ -44,10 +44,10 @@ tracked : {State Cause State' Cause' : Type 0} (step : State → Streams → Run
 tracked step step' R most simulates a b related zero = (0, related)
 tracked step step' R most simulates a b related (suc n) =
     let before : (moment : ℕ) × R (after step n a) (after step' moment b) =
-        tracked step step' R most simulates a b related n in
+    tracked step step' R most simulates a b related n in
     let next : (k : ℕ) × (suc k ≤ most)
-        × R (one_more step (after step n a)) (after step' (suc k) (after step' before.0 b)) =
-        simulates.goes _ _ before.1 in
+    × R (one_more step (after step n a)) (after step' (suc k) (after step' before.0 b)) =
+    simulates.goes _ _ before.1 in
     (suc next.0 + before.0, subst (R (after step (suc n) a)) (sym (after-add step' (suc next.0) before.0 b)) next.2)
 
 -- the next moment lies one to `most` steps behind
@@ -59,10 +59,10 @@ tracked-suc : {State Cause State' Cause' : Type 0} (step : State → Streams →
 unfolding tracked
 tracked-suc {State} {Cause} {State'} {Cause'} step step' R most simulates a b related n =
     let before : (moment : ℕ) × R (after step n a) (after step' moment b) =
-        tracked step step' R most simulates a b related n in
+    tracked step step' R most simulates a b related n in
     let next : (k : ℕ) × (suc k ≤ most)
-        × R (one_more step (after step n a)) (after step' (suc k) (after step' before.0 b)) =
-        simulates.goes _ _ before.1 in
+    × R (one_more step (after step n a)) (after step' (suc k) (after step' before.0 b)) =
+    simulates.goes _ _ before.1 in
     (next.0, next.1, refl)
 
 -- Where single steps are simulated, whole runs are.
@@ -73,7 +73,7 @@ pub keeps_step : {State Cause State' Cause' : Type 0} (step : State → Streams 
 keeps_step step step' R most simulates a b related =
     let moment : ℕ → ℕ = λ n. (tracked step step' R most simulates a b related n).0 in
     let behind : (n : ℕ) → (k : ℕ) × (suc k ≤ most)
-        × (moment (suc n) ≡ suc k + moment n) = tracked-suc step step' R most simulates a b related in
+    × (moment (suc n) ≡ suc k + moment n) = tracked-suc step step' R most simulates a b related in
     let same : (n : ℕ) → moment (n + 1) ≡ moment (suc n) = λ n. let e : n + 1 ≡ suc n = omega arith in ap moment e in
     record {
       moment = moment;
@@ -90,8 +90,13 @@ pub keeps_step_by : {State Cause State' Cause' : Type 0} (R R' : ℕ → Run Sta
     → (most : ℕ → ℕ) (first : ℕ → Run State Cause) (second : ℕ → Run State' Cause') → KeepsStep R most first second
     → KeepsStep R' most first second
 keeps_step_by R R' gives most first second kept =
-    record { moment = kept.moment; rising = kept.rising; within = kept.within; related =
-        λ i. gives i _ _ (kept.related i) }
+    record {
+      moment = kept.moment;
+      rising = kept.rising;
+      within = kept.within;
+      related =
+          λ i. gives i _ _ (kept.related i);
+    }
 
 -- what rises from each number to the next rises from each to any later one
 rises-by : (f : ℕ → ℕ) → ((i : ℕ) → f i < f (i + 1)) → (m d : ℕ) → f m < f (m + suc d)
@@ -196,7 +201,7 @@ moment_at moment (suc n) i h =
     let m : ℕ = moment (suc n) in
     let count : length ms ≡ suc n = length-moments moment n in
     let last : slice_index (ms ++ m ∷ []) (suc n) ≡ m = ap (λ k. slice_index (ms ++ m ∷ []) k) (sym count)
-        ∙ get_or-append_seam ms m [] 0 in
+    ∙ get_or-append_seam ms m [] 0 in
     elim (up_to_last i n h) [
       | inl le ↦ get_or-append ms (m ∷ []) 0 i (omega (arith, count)) ∙ moment_at moment n i le
       | inr e ↦ subst (λ j. slice_index (ms ++ m ∷ []) j ≡ moment j) (sym e) last

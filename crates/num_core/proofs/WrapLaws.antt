@@ -45,7 +45,7 @@ scale : (w v : Width) (j : ℕ) → bits w ≤ bits v → j * 2 ^ bits v ≡ (j 
 scale w v j le =
     let sum : bits v ≡ (bits v - bits w) + bits w = omega arith in
     let e : 2 ^ bits v ≡ 2 ^ (bits v - bits w) * 2 ^ bits w = ap (λ n. 2 ^ n) sum
-        ∙ pow-add 2 (bits v - bits w) (bits w) in
+    ∙ pow-add 2 (bits v - bits w) (bits w) in
     ap (λ x. j * x) e ∙ omega arith
 
 -- the number that bits stand for, and how many times the modulus it lies below them
@@ -80,7 +80,7 @@ int_wrap-narrower w v z le =
     let n = unsigned_abs (int_rem_euclid z (pos (2 ^ bits v))) in
     let r = rest_more v z in
     let far : pos n +ℤ pos ((r.0 * 2 ^ (bits v - bits w)) * 2 ^ bits w) ≡ z +ℤ pos
-        ((r.1 * 2 ^ (bits v - bits w)) * 2 ^ bits w) =
+    ((r.1 * 2 ^ (bits v - bits w)) * 2 ^ bits w) =
     ap (λ x. pos n +ℤ pos x) (sym (scale w v r.0 le)) ∙ r.2 ∙ ap (λ x. z +ℤ pos x) (scale w v r.1 le) in
     ap (int_wrap w) (int_wrap-is v z) ∙ int_wrap-cast_signed w v n le (rest_below v z) ∙ sym (int_wrap-pos w n)
     ∙ int_wrap-same w (pos n) z (r.0 * 2 ^ (bits v - bits w)) (r.1 * 2 ^ (bits v - bits w)) far
@@ -114,14 +114,14 @@ pub cast_signed-low : (w v : Width) (a : ℤ) → bits w ≤ bits v → FitsSign
 cast_signed-low w v a le f =
     let wide = fits_wider w v a le f in
     sym (int_wrap-cast_signed w v (cast_unsigned v a) le (of_z_fits v a wide).fits)
-        ∙ ap (int_wrap w) (to_z-of_z v a wide) ∙ int_wrap_fits w a f
+    ∙ ap (int_wrap w) (to_z-of_z v a wide) ∙ int_wrap_fits w a f
 
 -- the low bits of a value with its sign extended are its bits
 pub cast_unsigned-low : (w v : Width) (a : ℤ) → bits w ≤ bits v → FitsSigned w a
     → cast_unsigned v a % 2 ^ bits w ≡ cast_unsigned w a
 cast_unsigned-low w v a le f =
     sym (of_z-to_z w (cast_unsigned v a % 2 ^ bits w) (mod-lt (cast_unsigned v a) (pow_pos (bits w))))
-        ∙ ap (cast_unsigned w) (cast_signed-low w v a le f)
+    ∙ ap (cast_unsigned w) (cast_signed-low w v a le f)
 
 -- the bits of a value are what is left of it
 pub rest-fits : (w : Width) (a : ℤ) → FitsSigned w a → int_rem_euclid a (pos (2 ^ bits w)) ≡ pos (cast_unsigned w a)
@@ -154,7 +154,7 @@ ltb-cast_unsigned w v a b le f g =
     by (negsuc m) (negsuc n) f g wider =
         let two = half w in
         ltb-below (2 ^ bits v) m n (omega arith) (omega arith)
-            ∙ sym (ltb-below (2 ^ bits w) m n (omega arith) (omega arith))
+        ∙ sym (ltb-below (2 ^ bits w) m n (omega arith) (omega arith))
 
 -- ---- shifts
 

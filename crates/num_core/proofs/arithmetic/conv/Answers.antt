@@ -9,6 +9,6 @@ pub returns-clause-number : goal.returns-clause-number
 returns-clause-number c =
     let to = c.args.to in
     let is : to_z w64 (of_z w64 c.holding.result) ≡ held (kind_of_type to) (converted to c.args.from c.args.a) =
-        search rules in
+    search rules in
     ap (number (kind_of_type to)) is ∙ number-wrapped_to_type to
-        (reading (is_signed_type to) (width c.args.from) c.args.a)
+    (reading (is_signed_type to) (width c.args.from) c.args.a)

@@ -8,4 +8,4 @@ pub returns-clause-number : goal.returns-clause-number
 returns-clause-number c =
     subst (λ (z : ℤ). IfSome c.checked.result (λ r. number (kind_of_type c.args.to) r ≡ z))
     (read_number_is c.args.from c.args.a c.number_of.result c.requires c.ranges.a c.number_of.ensures)
-        c.checked.ensures.number
+    c.checked.ensures.number

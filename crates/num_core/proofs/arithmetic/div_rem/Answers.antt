@@ -15,7 +15,7 @@ read_back : (kind : Kind) (h r z : ℤ) → FitsSigned w64 h → h ≡ held kind
     → IsTrue (in_range kind z) → number kind (to_z w64 (of_z w64 h)) ≡ z
 read_back kind h r z fits is same inside =
     ap (number kind) (to_z-of_z w64 h fits ∙ is ∙ ap (λ x. held kind (to_z w128 (of_z w128 x))) same
-        ∙ ap (held kind) (to_z-of_z w128 z (in_range_fits kind z inside)))
+    ∙ ap (held kind) (to_z-of_z w128 z (in_range_fits kind z inside)))
     ∙ reading-inside (is_signed kind) (width kind) z inside
 
 dividend_is : (c : goal.After-holding-else-divisor) → c.number_of-dividend.result ≡ number c.args.kind c.args.a
@@ -40,9 +40,11 @@ apart c e d =
     ]
 
 pub returns-else-divisor-clause-zero : goal.returns-else-divisor-clause-zero
-returns-else-divisor-clause-zero c =
-    (λ e. cc, λ e. absurd (c.if-divisor-eq0.false
-        (ap (of_z w128) (divisor_is c ∙ ap (number c.args.kind) e ∙ number-zero c.args.kind))))
+returns-else-divisor-clause-zero c = (
+  λ e. cc,
+  λ e. absurd (c.if-divisor-eq0.false
+      (ap (of_z w128) (divisor_is c ∙ ap (number c.args.kind) e ∙ number-zero c.args.kind))),
+)
 
 pub returns-else-divisor-clause-quotient : goal.returns-else-divisor-clause-quotient
 returns-else-divisor-clause-quotient c =
@@ -51,13 +53,13 @@ returns-else-divisor-clause-quotient c =
     let y = number kind c.args.b in
     let fits : FitsSigned w64 c.holding.result = search rules in
     let inside = quotient_lies (is_signed kind) (width kind) x y
-        (reading_lies (is_signed kind) (width kind) c.args.a c.requires.a)
+    (reading_lies (is_signed kind) (width kind) c.args.a c.requires.a)
     (reading_lies (is_signed kind) (width kind) c.args.b c.requires.b) (apart c) in
     read_back kind c.holding.result _ (int_div x y) fits c.holding.ensures.value
     (λ i. int_div (read_number_is kind c.args.a c.number_of-dividend.result c.requires.a c.ranges.a
-        c.number_of-dividend.ensures i)
+    c.number_of-dividend.ensures i)
     (read_number_is kind c.args.b c.number_of-divisor.result c.requires.b c.ranges.b c.number_of-divisor.ensures i))
-        inside
+    inside
 
 pub returns-else-divisor-clause-remainder : goal.returns-else-divisor-clause-remainder
 returns-else-divisor-clause-remainder c =
@@ -66,9 +68,9 @@ returns-else-divisor-clause-remainder c =
     let y = number kind c.args.b in
     let fits : FitsSigned w64 c.holding-else-divisor.result = search rules in
     let inside = remainder_lies (is_signed kind) (width kind) x y
-        (reading_lies (is_signed kind) (width kind) c.args.a c.requires.a) in
+    (reading_lies (is_signed kind) (width kind) c.args.a c.requires.a) in
     read_back kind c.holding-else-divisor.result _ (int_rem x y) fits c.holding-else-divisor.ensures.value
     (λ i. int_rem (read_number_is kind c.args.a c.number_of-dividend.result c.requires.a c.ranges.a
-        c.number_of-dividend.ensures i)
+    c.number_of-dividend.ensures i)
     (read_number_is kind c.args.b c.number_of-divisor.result c.requires.b c.ranges.b c.number_of-divisor.ensures i))
-        inside
+    inside

@@ -31,5 +31,5 @@ returns-in-None-clause-value c =
     let y = read_number_is kind c.args.b c.number_of-2.result c.requires.b c.ranges.b c.number_of-2.ensures in
     let product : ℤ = to_z w128 (of_z w128 c.number_of.result) *ℤ to_z w128 (of_z w128 c.number_of-2.result) in
     let not_fits = subst (λ (o : Option ℤ). SomeIff o (FitsSigned w128 product) product) c.in-None.is
-        c.checked_mul.ensures in
+    c.checked_mul.ensures in
     refused kind product not_fits ∙ (λ i. checked kind (x i *ℤ y i))

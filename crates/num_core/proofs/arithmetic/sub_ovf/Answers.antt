@@ -11,7 +11,7 @@ exact : (c : goal.After-checked) → to_z w128
 exact c =
     let kind = c.args.kind in
     difference_is (number kind c.args.a) (number kind c.args.b) _ _ (wide_number kind c.args.a c.requires.a)
-        (wide_number kind c.args.b c.requires.b)
+    (wide_number kind c.args.b c.requires.b)
     (read_number_is kind c.args.a c.number_of.result c.requires.a c.ranges.a c.number_of.ensures)
     (read_number_is kind c.args.b c.number_of-2.result c.requires.b c.ranges.b c.number_of-2.ensures)
 

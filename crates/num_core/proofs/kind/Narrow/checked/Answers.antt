@@ -11,4 +11,4 @@ returns-then-whole-greatest-clause-number c =
     let kind = kind_of_type c.args.self in
     let is : to_z w64 (of_z w64 c.holding.result) ≡ held kind c.args.whole = search rules in
     ap (number kind) is ∙ reading-inside (is_signed kind) (width kind) c.args.whole
-        (in_range-kind_of_type c.args.self c.args.whole inside)
+    (in_range-kind_of_type c.args.self c.args.whole inside)

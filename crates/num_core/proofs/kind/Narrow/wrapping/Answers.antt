@@ -16,7 +16,7 @@ returns-then-rest-greatest c =
     let fits_greatest : FitsSigned w128 c.greatest.result = search rules in
     let m = to_z-of_z w128 c.modulus.result fits_modulus ∙ c.modulus.ensures in
     let is : r ≡ int_rem_euclid c.args.whole (modulus w) = c.rem_euclid-rest.ensures.value
-        ∙ (λ i. int_rem_euclid (to_z-of_z w128 c.args.whole c.ranges.whole i) (m i)) in
+    ∙ (λ i. int_rem_euclid (to_z-of_z w128 c.args.whole c.ranges.whole i) (m i)) in
     let low : r ≤ℤ c.greatest.result = omega (arith, ints, c.if-rest-greatest.true) in
     to_z-of_z w128 r fits ∙ rest_inside signed w c.args.whole r is (subst (λ (g : ℤ). r ≤ℤ g) c.greatest.ensures low)
 
@@ -30,12 +30,12 @@ returns-else-rest-greatest c =
     let fits_greatest : FitsSigned w128 c.greatest.result = search rules in
     let m = to_z-of_z w128 c.modulus.result fits_modulus ∙ c.modulus.ensures in
     let is : r ≡ int_rem_euclid c.args.whole (modulus w) = c.rem_euclid-rest.ensures.value
-        ∙ (λ i. int_rem_euclid (to_z-of_z w128 c.args.whole c.ranges.whole i) (m i)) in
+    ∙ (λ i. int_rem_euclid (to_z-of_z w128 c.args.whole c.ranges.whole i) (m i)) in
     let high : c.greatest.result <ℤ r = omega (arith, ints, c.if-rest-greatest.false) in
     let again = c.modulus-else-rest-greatest.result in
     let fits_again : FitsSigned w128 again = search rules in
     let difference : FitsSigned w128 (r -ℤ again) = search rules in
     (λ i. to_z w128 (of_z w128 (to_z-of_z w128 r fits i -ℤ to_z-of_z w128 again fits_again i)))
-        ∙ to_z-of_z w128 (r -ℤ again) difference
+    ∙ to_z-of_z w128 (r -ℤ again) difference
     ∙ ap (λ z. r -ℤ z) c.modulus-else-rest-greatest.ensures
     ∙ rest_above signed w c.args.whole r is (subst (λ (g : ℤ). g <ℤ r) c.greatest.ensures high)
