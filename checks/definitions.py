@@ -9,8 +9,8 @@ HEAD = """# Definitions
 The definitions that stand in `specs/` of each crate, in the order of `crates.txt`, each with the sentence that stands
 over it in its file; those without a sentence of their own share the one before them, or their names and lines say it.
 Laws, which are proved, and what only lets a type hold itself (`specs/formers`) are left out. `checks/definitions.py`
-makes this list, and `checks/definitions.sh` sees that it is current. [THEOREM.md](THEOREM.md) says what the main clauses
-mean.
+makes this list, and `checks/definitions.sh` sees that it is current. [THEOREM.md](THEOREM.md) says what the main
+clauses mean.
 """
 DEFINITION = re.compile(r" *(?:abbrev pub|unfoldable pub|pub record|pub data|pub abbrev|pub unfoldable) ([^\s:(){},]+)")
 

@@ -111,7 +111,7 @@ LIST = "/usr/share/mono-2.0/mono/cil/cil-opcodes.xml"
 def listed():
     """The names that mono's list of opcodes has, but for those of mono alone and for unused numbers."""
     if not os.path.exists(LIST):
-        print(f"skipped: checks/opcodes.sh by mono's list: {LIST} isn't there (Debian package libmono-2.0-dev)")
+        print(f"skipped: checks/opcodes.sh by mono's list: {LIST} isn't there (Debian package mono-runtime-common)")
         return []
     return [row.get("name") for row in ElementTree.parse(LIST).iter("opcode")
             if row.get("o1") in ("0xFF", "0xFE") and not re.match("unused|prefix", row.get("name"))]
