@@ -1,7 +1,8 @@
 #!/usr/bin/env bash
 # Builds bodies with each form of `ldc.i4`, bodies that compute by `add`, `sub` and `mul` with `dup`, `pop` and `nop`,
 # and bodies with branches; compares what `ilc run` answers with the low byte of the result, with what qemu-riscv64
-# answers of the same file, and with what mono gives for the same instructions; looks at the headers by readelf.
+# answers of the same file, and with what mono gives for the same instructions; looks at the headers by readelf, at the
+# permission to execute, and at what becomes of a longer file and of what is no regular file.
 . "$(dirname "${BASH_SOURCE[0]}")/common.bash"
 wants python3=python3
 builds
@@ -16,7 +17,7 @@ fails() {
 while read -r body expected; do
   printf '%b' "$(sed 's/../\\x&/g' <<<"$body")" >"$work/body"
   rm -f "$work/elf"
-  "$program" body "$work/body" -o "$work/elf" || { fails "$body isn't built"; continue; }
+  "$program" body "$work/body" -o "$work/elf" && [ -x "$work/elf" ] || { fails "$body isn't built"; continue; }
   "$program" run "$work/elf"
   status=$?
   [ "$status" -eq "$expected" ] || fails "$body: ilc run gives $status, not $expected"
@@ -37,6 +38,13 @@ fi
 head -c 100000 /dev/zero >"$work/longer"
 "$program" body "$work/body" -o "$work/longer" && cmp -s "$work/elf" "$work/longer" ||
   fails "a longer file isn't replaced"
+
+# what is no regular file is refused as a fault of reading, and nothing is created
+mkfifo "$work/pipe"
+for file in "$work" "$work/pipe" /dev/null; do
+  said=$("$program" body "$file" -o "$work/none" 2>&1 </dev/null)
+  [ "$? $said" = "74 ilc: read fault" ] && [ ! -e "$work/none" ] || fails "$file is read as a body: $said"
+done
 
 if has "$check by readelf" riscv64-linux-gnu-readelf=binutils-riscv64-linux-gnu; then
   riscv64-linux-gnu-readelf -lh "$work/elf" >"$work/headers" 2>&1
