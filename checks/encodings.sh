@@ -1,23 +1,15 @@
 #!/usr/bin/env bash
-# The words of the table test of rv_isa against GNU as: each row of the test becomes a line of assembler
-# text, and each variant of `Ins` has to have a row.
-set -u
-cd "$(dirname "$0")/.." || exit 2
-for tool in riscv64-linux-gnu-as riscv64-linux-gnu-objcopy; do
-  command -v "$tool" >/dev/null || { echo "skipped: $tool"; exit 0; }
-done
-folder=$(mktemp -d) || exit 2
-trap 'rm -rf "$folder"' EXIT
+# The words of the table test of rv_isa against GNU as: each row of the test becomes a line of assembler text, and each
+# variant of `Ins` has to have a row.
+. "$(dirname "${BASH_SOURCE[0]}")/common.bash"
+wants riscv64-linux-gnu-as=binutils-riscv64-linux-gnu
 
 # a word and its instruction, as `00000073 Ecall`
-sed -n 's/^    (0x\([0-9a-f]*\)_\([0-9a-f]*\), "\(.*\)"),$/\1\2 \3/p' crates/rv_isa/src/tests.rt >"$folder/rows"
+sed -n 's/^    (0x\([0-9a-f]*\)_\([0-9a-f]*\), "\(.*\)"),$/\1\2 \3/p' crates/rv_isa/src/tests.rt >"$work/rows"
 
-sed -n 's/^    \([A-Z][a-z0-9]*\)[ ,].*$/\1/p' crates/rv_isa/src/ins.rt | sort -u >"$folder/variants"
-cut -d ' ' -f 2 "$folder/rows" | sort -u >"$folder/tested"
-if ! diff "$folder/variants" "$folder/tested"; then
-  echo "encodings: the table test lacks an instruction"
-  exit 1
-fi
+sed -n 's/^    \([A-Z][a-z0-9]*\)[ ,].*$/\1/p' crates/rv_isa/src/ins.rt | sort -u >"$work/variants"
+cut -d ' ' -f 2 "$work/rows" | sort -u >"$work/tested"
+diff "$work/variants" "$work/tested" || { echo "encodings: the table test lacks an instruction"; exit 1; }
 
 {
   echo ".option norvc"
@@ -33,14 +25,11 @@ fi
     else if (NF == 2) print name
     else if (NF == 4) print name, $3 ", " $4
     else print name, $3 ", " $4 ", " $5
-  }' "$folder/rows"
-} >"$folder/rows.s"
-riscv64-linux-gnu-as -march=rv64im -o "$folder/rows.o" "$folder/rows.s" || exit 1
-riscv64-linux-gnu-objcopy -O binary -j .text "$folder/rows.o" "$folder/rows.bin" || exit 1
-od -An -v -tx4 -w4 --endian=little "$folder/rows.bin" | tr -d ' ' >"$folder/words"
-cut -d ' ' -f 1 "$folder/rows" >"$folder/ours"
-if ! diff "$folder/ours" "$folder/words"; then
-  echo "encodings: a word differs from that of GNU as"
-  exit 1
-fi
-echo "encodings: $(wc -l <"$folder/ours") words are those of GNU as"
+  }' "$work/rows"
+} >"$work/rows.s"
+riscv64-linux-gnu-as -march=rv64im -o "$work/rows.o" "$work/rows.s" || exit 1
+riscv64-linux-gnu-objcopy -O binary -j .text "$work/rows.o" "$work/rows.bin" || exit 1
+od -An -v -tx4 -w4 --endian=little "$work/rows.bin" | tr -d ' ' >"$work/words"
+cut -d ' ' -f 1 "$work/rows" >"$work/ours"
+diff "$work/ours" "$work/words" || { echo "encodings: a word differs from that of GNU as"; exit 1; }
+echo "$check: $(wc -l <"$work/ours") words are those of GNU as"

@@ -1,0 +1,39 @@
+"""The table of opcodes as the sources have it, for the checks that assemble code."""
+
+import re
+
+SOURCE = "crates/il_code/src/opcode.rt"
+# how many bytes an operand of each form takes; one of targets takes as many as its first four say
+SIZES = {"Absent": 0, "Unsigned8": 1, "Unsigned16": 2, "Signed8": 1, "Signed32": 4, "Signed64": 8, "Token": 4,
+         "Target8": 1, "Target32": 4, "Targets": None}
+# those whose names end in a dot
+PREFIXES = ("Constrained", "No", "Readonly", "Tail", "Unaligned", "Volatile")
+
+
+def mnemonic(variant):
+    """The assembler's name of a variant of `Op`: `LdcI4M1` is `ldc.i4.m1`, since a capital letter or a digit begins a
+    word, but a digit behind a letter alone."""
+    words = re.findall(r"[A-Z][a-z]+|[A-Z][0-9]*|[0-9]+", variant)
+    return ".".join(words).lower() + ("." if variant in PREFIXES else "")
+
+
+def text():
+    with open(SOURCE, encoding="utf-8") as file:
+        return file.read()
+
+
+def variants():
+    """The names of the variants of `Op`."""
+    return re.findall(r"^    (\w+),$", re.search(r"pub enum Op \{\n(.*?)^\}", text(), re.S | re.M)[1], re.M)
+
+
+def rows():
+    """The rows of `OPCODES`: the opcode's bytes, the variant and the form of the operand; and how many are declared."""
+    table = re.search(r"pub static OPCODES: .*?; (\d+)\] = \[\n(.*?)^\];", text(), re.S | re.M)
+    found = re.findall(r"^    \(0x([0-9A-F]+), Op::(\w+), OperandForm::(\w+)\),$", table[2], re.M)
+    return [(bytes.fromhex(code), variant, form) for code, variant, form in found], int(table[1])
+
+
+def encodings():
+    """Of each name in the assembler the opcode's bytes and the size of the operand."""
+    return {mnemonic(variant): (code, SIZES[form]) for code, variant, form in rows()[0]}
