@@ -1,15 +1,15 @@
 -- What small bodies do, by computing.
-use Rattle.std.proofs.Common.{◌≡◌, ◌∙◌, ℕ, zero, suc, ◌+◌, ◌≤◌, List, [], ◌∷◌, Result, Ok, pos, ap, arith, refl, subst}
+use Rattle.std.proofs.Common.{◌≡◌, ◌∙◌, ℕ, zero, suc, ◌+◌, List, [], ◌∷◌, Result, Ok, pos, ap, arith, refl, subst}
 use Rattle.std.proofs.Common.{sym}
 use Rattle.std.specs.Int.{int_wrap}
-use Rattle.num_core.specs.Run.{Ended, Run, Running, Stopped, Streams, after, one_more}
+use Rattle.num_core.specs.Run.{Ended, Running, Stopped, Streams, one_more}
 use Rattle.il_code.specs.Instructions.{opcode_row}
 use Rattle.il_code.specs.Listing.{listed}
 use Rattle.il_code.specs.declared.body.Body.{Body}
 use Rattle.il_code.specs.declared.body.Instr.{Instr}
 use Rattle.il_code.specs.declared.body.Operand.TheVariants.{Nothing, Number, Target}
 use Rattle.il_code.specs.declared.opcode.Op.TheVariants.{Add, BrS, LdcI4S, LdcI4_5, LdcI4_7, Ret, Sub}
-use Rattle.cil_state.specs.State.{CilCause, CilState, NoStep}
+use Rattle.cil_state.specs.State.{NoStep}
 use Rattle.cil_state.specs.Step.{cil_run, cil_start, cil_step}
 use Rattle.cil_state.proofs.Runs.{stopped_stays}
 

@@ -1,5 +1,5 @@
 -- A run that is over stays as it is.
-use Rattle.std.proofs.Common.{◌≡◌, ◌∙◌, ℕ, ◌+◌, ◌-◌, ◌≤◌, List, [], ap, arith, sym}
+use Rattle.std.proofs.Common.{◌≡◌, ◌∙◌, ℕ, ◌+◌, ◌-◌, ◌≤◌, List, [], ap, arith}
 use Rattle.num_core.specs.Run.{Ended, Run, Running, Stopped, Streams, after}
 use Rattle.num_core.proofs.Runs.{after-add, after-ended, after-stopped}
 use Rattle.il_code.specs.declared.body.Body.{Body}

@@ -24,25 +24,25 @@ pub write_elf-requires-clause-text_fits : goal.write_elf-requires-clause-text_fi
 write_elf-requires-clause-text_fits c =
     omega (
       arith,
-      ap length (ap (λ (l : ElfLayout). l.text) c.layout.ensures.value ∙ c.in_ok-text.ensures ∙ ap text_of (c.as_slice-3.ensures.value ∙ c.in_ok-code.ensures.code ∙ ap (λ l. code_of l c.as_slice-2.result.now) c.as_slice.ensures ∙ ap (code_of c.args.bare.now.body.code) c.as_slice-2.ensures.value)),
+      ap length (ap (λ (l : ElfLayout). l.text) c.layout-layout.ensures.value ∙ c.in_ok-text.ensures ∙ ap text_of (c.as_slice-3.ensures.value ∙ c.in_ok-code.ensures.code ∙ ap (λ l. code_of l c.as_slice-2.result.now) c.as_slice.ensures ∙ ap (code_of c.args.bare.now.body.code) c.as_slice-2.ensures.value)),
       short_text c.requires.0 c.args.bare.now.body c.args.bare.now.table.items c.requires.1,
     )
 
 pub returns-clause-file : goal.returns-clause-file
 returns-clause-file c =
     let code : List Ins = code_of c.args.bare.now.body.code c.args.bare.now.table.items in
-    let is : c.layout.result ≡ layout_of (text_of code) =
-    c.layout.ensures.value ∙ ap layout_of (c.in_ok-text.ensures ∙ ap text_of (c.as_slice-3.ensures.value ∙ c.in_ok-code.ensures.code ∙ ap (λ l. code_of l c.as_slice-2.result.now) c.as_slice.ensures ∙ ap (code_of c.args.bare.now.body.code) c.as_slice-2.ensures.value)) in
-    both_ok c.write_elf.result _ _ _ (λ file bytes loads. file_is c.layout.result code file is bytes loads) c.write_elf.ensures.bytes c.write_elf.ensures.loads
+    let is : c.layout-layout.result ≡ layout_of (text_of code) =
+    c.layout-layout.ensures.value ∙ ap layout_of (c.in_ok-text.ensures ∙ ap text_of (c.as_slice-3.ensures.value ∙ c.in_ok-code.ensures.code ∙ ap (λ l. code_of l c.as_slice-2.result.now) c.as_slice.ensures ∙ ap (code_of c.args.bare.now.body.code) c.as_slice-2.ensures.value)) in
+    both_ok c.write_elf.result _ _ _ (λ file bytes loads. file_is c.layout-layout.result code file is bytes loads) c.write_elf.ensures.bytes c.write_elf.ensures.loads
 
 pub returns-clause-implements : goal.returns-clause-implements
 returns-clause-implements c =
     let constants : All IsInt32Instr c.args.bare.now.body.code = subst (All IsInt32Instr) c.as_slice.ensures c.in_ok-code.ensures.constants in
     IfOk-weaker c.write_elf.result _ _
-    (λ file loads. implements c.requires.0 c.args.bare.now.body c.args.bare.now.table.items c.requires.1 c.layout.result file c.write_elf.ensures.text_at
-    (ap (λ (l : ElfLayout). l.text) c.layout.ensures.value ∙ c.in_ok-text.ensures ∙ ap text_of (c.as_slice-3.ensures.value ∙ c.in_ok-code.ensures.code ∙ ap (λ l. code_of l c.as_slice-2.result.now) c.as_slice.ensures ∙ ap (code_of c.args.bare.now.body.code) c.as_slice-2.ensures.value)) (ap (λ (l : ElfLayout). l.entry) c.layout.ensures.value) c.layout.ensures.zeros constants loads)
+    (λ file loads. implements c.requires.0 c.args.bare.now.body c.args.bare.now.table.items c.requires.1 c.layout-layout.result file c.write_elf.ensures.text_at
+    (ap (λ (l : ElfLayout). l.text) c.layout-layout.ensures.value ∙ c.in_ok-text.ensures ∙ ap text_of (c.as_slice-3.ensures.value ∙ c.in_ok-code.ensures.code ∙ ap (λ l. code_of l c.as_slice-2.result.now) c.as_slice.ensures ∙ ap (code_of c.args.bare.now.body.code) c.as_slice-2.ensures.value)) (ap (λ (l : ElfLayout). l.entry) c.layout-layout.ensures.value) c.layout-layout.ensures.zeros constants loads)
     c.write_elf.ensures.loads
 
 pub write_elf-requires-clause-rest_fits : goal.write_elf-requires-clause-rest_fits
 write_elf-requires-clause-rest_fits c =
-    omega (arith, ap (λ (l : ElfLayout). length l.rest) c.layout.ensures.value, c.layout.ensures.zeros)
+    omega (arith, ap (λ (l : ElfLayout). length l.rest) c.layout-layout.ensures.value, c.layout-layout.ensures.zeros)
