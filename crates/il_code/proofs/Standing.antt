@@ -39,7 +39,8 @@ targets_within : (at : ℕ) (bytes : List ℕ) (found : Operand × ℕ) → oper
     → found.1 ≤ length bytes
 targets_within at bytes found e = by (nat_lt (length bytes) 4) e
   where
-    by : (b : Bool) → cond {A = Option (Operand × ℕ)} b None (with_targets (little_number 4 bytes) at bytes) ≡ Some found
+    by : (b : Bool) → cond {A = Option (Operand × ℕ)} b None (with_targets (little_number 4 bytes) at bytes) ≡ Some
+        found
         → found.1 ≤ length bytes
     by true e = cc
     by false e = counted_within (little_number 4 bytes) at bytes found e

@@ -23,7 +23,8 @@ length-text_of [] = refl
 length-text_of (x ∷ code) = ap (λ n. suc (suc (suc (suc n)))) (length-text_of code) ∙ sym (four_more (length code))
 
 -- the word at a place of the text
-pub word_at : (code : List Ins) (k : ℕ) (ins : Ins) → slice_get code k ≡ Some ins → take 4 (drop (4 * k) (text_of code)) ≡ little_bytes 4 (word_of ins)
+pub word_at : (code : List Ins) (k : ℕ) (ins : Ins) → slice_get code k ≡ Some ins
+    → take 4 (drop (4 * k) (text_of code)) ≡ little_bytes 4 (word_of ins)
 word_at [] k ins e = cc
 word_at (x ∷ code) zero ins e =
     let same : x ≡ ins = cc in
@@ -46,15 +47,20 @@ pub record StandsAt (front : List ℕ) (code : List Ins) (text slots : Segment) 
   pub room : text.at + length front + 4 * length code < 2 ^ 64
 
 -- the word that is fetched there
-pub fetches : (front : List ℕ) (code : List Ins) (text slots : Segment) (k : ℕ) (m : MachineState) (ins : Ins) → StandsAt front code text slots k m → slice_get code k ≡ Some ins → word_of ins < 2 ^ 32 → fetched m ≡ Some (word_of ins)
+pub fetches : (front : List ℕ) (code : List Ins) (text slots : Segment) (k : ℕ) (m : MachineState) (ins : Ins)
+    → StandsAt front code text slots k m → slice_get code k ≡ Some ins → word_of ins < 2 ^ 32
+    → fetched m ≡ Some (word_of ins)
 fetches front code text slots k m ins at e fits =
     let there : k < length code = within code k ins e in
-    let size : length text.bytes ≡ length front + 4 * length code = ap length at.bytes ∙ (length-append front (text_of code) ∙ ap (λ n. length front + n) (length-text_of code)) in
+    let size : length text.bytes ≡ length front + 4 * length code = ap length at.bytes
+    ∙ (length-append front (text_of code) ∙ ap (λ n. length front + n) (length-text_of code)) in
     let aligned : nat_eq (m.pc % 4) 0 ≡ true = eq-eqb (m.pc % 4) 0 (omega arith) in
     let begins : nat_le text.at m.pc ≡ true = le-leb _ _ (omega arith) in
     let ends : nat_le (m.pc + 4) (text.at + length text.bytes) ≡ true = le-leb _ _ (omega arith) in
-    let inside : covers m.pc 4 text ≡ true = ap (λ b. b && nat_le (m.pc + 4) (text.at + length text.bytes)) begins ∙ ends in
-    let allowed : text.execute && covers m.pc 4 text ≡ true = ap (λ b. b && covers m.pc 4 text) at.executable ∙ inside in
+    let inside : covers m.pc 4 text ≡ true = ap (λ b. b && nat_le (m.pc + 4) (text.at + length text.bytes)) begins
+    ∙ ends in
+    let allowed : text.execute && covers m.pc 4 text ≡ true = ap (λ b. b && covers m.pc 4 text) at.executable
+    ∙ inside in
     let offset : m.pc - text.at ≡ length front + 4 * k = omega arith in
     let bytes : take 4 (drop (m.pc - text.at) text.bytes) ≡ little_bytes 4 (word_of ins) =
     ap (λ n. take 4 (drop n text.bytes)) offset
@@ -63,18 +69,24 @@ fetches front code text slots k m ins at e fits =
     ∙ word_at code k ins e in
     ap (λ b. cond b (option_map (little_number 4) (bytes_at (λ s. s.execute) m.pc 4 m.segments)) None) aligned
     ∙ ap (λ ss. option_map (little_number 4) (bytes_at (λ s. s.execute) m.pc 4 ss)) at.memory
-    ∙ ap (λ b. option_map (little_number 4) (cond b (Some (take 4 (drop (m.pc - text.at) text.bytes))) (bytes_at (λ s. s.execute) m.pc 4 (slots ∷ [])))) allowed
+    ∙ ap (λ b. option_map (little_number 4)
+    (cond b (Some (take 4 (drop (m.pc - text.at) text.bytes))) (bytes_at (λ s. s.execute) m.pc 4 (slots ∷ []))))
+    allowed
     ∙ ap (λ bs. Some (little_number 4 bs)) bytes
     ∙ ap Some (little_number-reads_back 4 (word_of ins) [] fits)
 
 -- the step that the machine does there
-pub steps_at : (front : List ℕ) (code : List Ins) (text slots : Segment) (k : ℕ) (m : MachineState) (streams : Streams) (ins : Ins) → StandsAt front code text slots k m → slice_get code k ≡ Some ins → IsLegal ins → machine_step m streams ≡ effect ins m streams
+pub steps_at : (front : List ℕ) (code : List Ins) (text slots : Segment) (k : ℕ) (m : MachineState) (streams : Streams)
+    (ins : Ins) → StandsAt front code text slots k m → slice_get code k ≡ Some ins → IsLegal ins
+    → machine_step m streams ≡ effect ins m streams
 steps_at front code text slots k m streams ins at e legal =
     ap (λ o. on_word o m streams) (fetches front code text slots k m ins at e (word_fits ins legal))
     ∙ ap (λ o. on_instruction o m streams) (known ins legal)
 
 -- The instruction behind. The second segment may have changed.
-pub stands_next : (front : List ℕ) (code : List Ins) (text slots slots' : Segment) (k : ℕ) (m m' : MachineState) → StandsAt front code text slots k m → k < length code → m'.pc ≡ next_pc m → m'.segments ≡ text ∷ slots' ∷ [] → StandsAt front code text slots' (suc k) m'
+pub stands_next : (front : List ℕ) (code : List Ins) (text slots slots' : Segment) (k : ℕ) (m m' : MachineState)
+    → StandsAt front code text slots k m → k < length code → m'.pc ≡ next_pc m → m'.segments ≡ text ∷ slots' ∷ []
+    → StandsAt front code text slots' (suc k) m'
 stands_next front code text slots slots' k m m' at h pc segments =
     record {
       memory = segments;
@@ -97,10 +109,12 @@ pub get_behind : {X : Type 0} (before rest : List X) (x : X) → slice_get (befo
 get_behind [] rest x = refl
 get_behind (y ∷ before) rest x = get_behind before rest x
 
-pub block_at : (before block behind code : List Ins) (k : ℕ) → code ≡ before ++ (block ++ behind) → k ≡ length before → BlockAt code k block
+pub block_at : (before block behind code : List Ins) (k : ℕ) → code ≡ before ++ (block ++ behind) → k ≡ length before
+    → BlockAt code k block
 block_at before [] behind code k split place = tt
 block_at before (ins ∷ block) behind code k split place = (
-  ap (λ c. slice_get c k) split ∙ ap (slice_get (before ++ ins ∷ (block ++ behind))) place ∙ get_behind before (block ++ behind) ins,
+  ap (λ c. slice_get c k) split ∙ ap (slice_get (before ++ ins ∷ (block ++ behind))) place
+      ∙ get_behind before (block ++ behind) ins,
   block_at (before ++ ins ∷ []) block behind code (suc k)
       (split ∙ sym (append_assoc before (ins ∷ []) (block ++ behind)))
       (omega (arith, place, length_push before ins)),

@@ -26,7 +26,8 @@ one_value r x y ok ok' =
     cc
 
 -- the size of a file with a tiny header
-sized : (b c : Bool) (found code : List ℕ) (offset : ℕ) → cond b (cond c (Ok found) (Err offset)) (Err 0) ≡ Ok code → found ≡ code
+sized : (b c : Bool) (found code : List ℕ) (offset : ℕ) → cond b (cond c (Ok found) (Err offset)) (Err 0) ≡ Ok code
+    → found ≡ code
 sized true true found code offset h = one_value (Ok found) found code refl h
 sized true false found code offset h = absurd (not_both (Err offset) code offset h refl)
 sized false c found code offset h = absurd (not_both (Err 0) code 0 h refl)
@@ -34,7 +35,8 @@ sized false c found code offset h = absurd (not_both (Err 0) code 0 h refl)
 pub small : (bytes code : List ℕ) → tiny_body bytes ≡ Ok code → length code < 64 → length bytes ≤ 64
 small [] code h size = absurd (not_both (Err 0) code 0 h refl)
 small (header ∷ found) code h size =
-    let same = ap length (sized (nat_eq (header % 4) 2) (nat_eq (length found) (header / 4)) found code (min (length found) (header / 4) + 1) h) in
+    let same = ap length (sized (nat_eq (header % 4) 2) (nat_eq (length found) (header / 4)) found code
+    (min (length found) (header / 4) + 1) h) in
     omega arith
 
 -- ---- two least tables are one
@@ -52,35 +54,44 @@ below_both k l h h' = by k l (ways k l h) h'
     by k _ (IsAll _) h = sym h
     by k _ (IsSame _) h = refl
 
-same_tables : (table other : List Known) → length table ≡ length other → AllBelow table other → AllBelow other table → table ≡ other
+same_tables : (table other : List Known) → length table ≡ length other → AllBelow table other → AllBelow other table
+    → table ≡ other
 same_tables [] [] size below above = refl
 same_tables [] (l ∷ other) size below above = absurd (let e : 0 ≡ suc (length other) = size in omega (arith, e))
 same_tables (k ∷ table) [] size below above = absurd (let e : suc (length table) ≡ 0 = size in omega (arith, e))
 same_tables (k ∷ table) (l ∷ other) size below above =
     let sizes : suc (length table) ≡ suc (length other) = size in
     let heads : k ≡ l = below_both k l (below 0) (above 0) in
-    let tails : table ≡ other = same_tables table other (omega (arith, sizes)) (λ n. below (suc n)) (λ n. above (suc n)) in
+    let tails : table ≡ other = same_tables table other (omega (arith, sizes)) (λ n. below (suc n)) (λ n. above (suc n))
+    in
     ap (λ k. k ∷ table) heads ∙ ap (λ t. l ∷ t) tails
 
-one_table : (instrs : List Instr) (table other : List Known) → IsLeast instrs table → IsLeast instrs other → table ≡ other
-one_table instrs table other is is' = same_tables table other (is.solution.size ∙ sym is'.solution.size) (is.least other is'.solution) (is'.least table is.solution)
+one_table : (instrs : List Instr) (table other : List Known) → IsLeast instrs table → IsLeast instrs other
+    → table ≡ other
+one_table instrs table other is is' =
+    same_tables table other (is.solution.size ∙ sym is'.solution.size) (is.least other is'.solution)
+    (is'.least table is.solution)
 
 -- ---- code of a bare body is not refused
 
-flow_of : (code : List ℕ) (body : Body) (table : List Known) (fault : BuildFault) → IsBareCode code body table → InstructionsGive code fault → FlowGives body.code table fault
+flow_of : (code : List ℕ) (body : Body) (table : List Known) (fault : BuildFault) → IsBareCode code body table
+    → InstructionsGive code fault → FlowGives body.code table fault
 flow_of code body table fault bare g =
     let instrs : g.0 ≡ body.code = one_value (listed code) g.0 body.code g.1 bare.instructions in
     let least : IsLeast body.code g.3 = subst (λ l. IsLeast l g.3) instrs g.4 in
     let flow : FlowGives body.code g.3 fault = subst (λ l. FlowGives l g.3 fault) instrs g.5 in
     subst (λ t. FlowGives body.code t fault) (one_table body.code g.3 table least bare.least) flow
 
-code_is_not_refused : (code : List ℕ) (body : Body) (table : List Known) (fault : BuildFault) → IsBareCode code body table → NotBareCode code fault → fault ≡ Memory
+code_is_not_refused : (code : List ℕ) (body : Body) (table : List Known) (fault : BuildFault)
+    → IsBareCode code body table → NotBareCode code fault → fault ≡ Memory
 code_is_not_refused code body table (BadHeader offset) bare h = absurd h
-code_is_not_refused code body table (BadOpcode offset) bare h = absurd (not_both (listed code) body.code offset bare.instructions h)
+code_is_not_refused code body table (BadOpcode offset) bare h =
+    absurd (not_both (listed code) body.code offset bare.instructions h)
 code_is_not_refused code body table (BadTarget offset) bare (inl h) =
     let instrs : h.0 ≡ body.code = one_value (listed code) h.0 body.code h.1 bare.instructions in
     absurd (none-some offset (sym bare.targets ∙ ap first_bad_target (sym instrs) ∙ h.2))
-code_is_not_refused code body table (BadTarget offset) bare (inr g) = absurd (none-some offset (sym bare.past ∙ flow_of code body table (BadTarget offset) bare g))
+code_is_not_refused code body table (BadTarget offset) bare (inr g) =
+    absurd (none-some offset (sym bare.past ∙ flow_of code body table (BadTarget offset) bare g))
 code_is_not_refused code body table (OpcodeOutside offset) bare g =
     let f : FlowGives body.code table (OpcodeOutside offset) = flow_of code body table (OpcodeOutside offset) bare g in
     absurd (none-some offset (sym bare.operations ∙ f.1))
@@ -89,15 +100,19 @@ code_is_not_refused code body table (Unverified offset) bare g =
     absurd (none-some offset (sym bare.verified ∙ f.2))
 code_is_not_refused code body table Memory bare h = refl
 
-by_its_code : (bytes : List ℕ) (body : Body) (table : List Known) (fault : BuildFault) → ReadsBare bytes body table → CodeGives bytes fault → fault ≡ Memory
+by_its_code : (bytes : List ℕ) (body : Body) (table : List Known) (fault : BuildFault) → ReadsBare bytes body table
+    → CodeGives bytes fault → fault ≡ Memory
 by_its_code bytes body table fault reads h =
     let same : h.0 ≡ reads.code = one_value (tiny_body bytes) h.0 reads.code h.1 reads.header in
     code_is_not_refused reads.code body table fault reads.bare (subst (λ c. NotBareCode c fault) same h.2)
 
-pub is_not_refused : (bytes : List ℕ) (body : Body) (table : List Known) (fault : BuildFault) → ReadsBare bytes body table → NotBare bytes fault → fault ≡ Memory
-is_not_refused bytes body table (BadHeader offset) reads h = absurd (not_both (tiny_body bytes) reads.code offset reads.header h)
+pub is_not_refused : (bytes : List ℕ) (body : Body) (table : List Known) (fault : BuildFault)
+    → ReadsBare bytes body table → NotBare bytes fault → fault ≡ Memory
+is_not_refused bytes body table (BadHeader offset) reads h =
+    absurd (not_both (tiny_body bytes) reads.code offset reads.header h)
 is_not_refused bytes body table (BadOpcode offset) reads h = by_its_code bytes body table (BadOpcode offset) reads h
 is_not_refused bytes body table (BadTarget offset) reads h = by_its_code bytes body table (BadTarget offset) reads h
-is_not_refused bytes body table (OpcodeOutside offset) reads h = by_its_code bytes body table (OpcodeOutside offset) reads h
+is_not_refused bytes body table (OpcodeOutside offset) reads h =
+    by_its_code bytes body table (OpcodeOutside offset) reads h
 is_not_refused bytes body table (Unverified offset) reads h = by_its_code bytes body table (Unverified offset) reads h
 is_not_refused bytes body table Memory reads h = refl

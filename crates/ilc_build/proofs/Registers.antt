@@ -21,11 +21,14 @@ has_registers r value m m' h has gets =
       x0 = ap (λ rs. slice_index rs 0) gets.registers ∙ get_or-set_other m.registers r 0 value 0 ne ∙ has.x0;
     }
 
-pub register_same : (r value : ℕ) (m m' : MachineState) → r < 32 → HasRegisters m → Gets r value m m' → register m' r ≡ value
-register_same r value m m' h has gets = ap (λ rs. slice_index rs r) gets.registers ∙ get_or-set_same m.registers r value 0 (omega arith)
+pub register_same : (r value : ℕ) (m m' : MachineState) → r < 32 → HasRegisters m → Gets r value m m'
+    → register m' r ≡ value
+register_same r value m m' h has gets = ap (λ rs. slice_index rs r) gets.registers
+    ∙ get_or-set_same m.registers r value 0 (omega arith)
 
 pub register_other : (r q value : ℕ) (m m' : MachineState) → q ≢ r → Gets r value m m' → register m' q ≡ register m q
-register_other r q value m m' ne gets = ap (λ rs. slice_index rs q) gets.registers ∙ get_or-set_other m.registers r q value 0 ne
+register_other r q value m m' ne gets = ap (λ rs. slice_index rs q) gets.registers
+    ∙ get_or-set_other m.registers r q value 0 ne
 
 -- the low byte of a register that holds a number
 pub low_byte : (n : ℤ) → low_bits 64 n % 256 ≡ low_bits 8 n

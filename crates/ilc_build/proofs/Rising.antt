@@ -11,7 +11,8 @@ use Rattle.ilc_build.specs.declared.depths.Known.{Known}
 use Rattle.ilc_build.proofs.Knowing.{below-join_left, below-refl}
 use Rattle.ilc_build.specs.declared.depths.Known.TheVariants.{Nothing, Depth, Clash}
 
-ranks-set : (table : List Known) (n : ℕ) (k : Known) → n < length table → ranks (set table n k) + rank (row table n) ≡ ranks table + rank k
+ranks-set : (table : List Known) (n : ℕ) (k : Known) → n < length table
+    → ranks (set table n k) + rank (row table n) ≡ ranks table + rank k
 ranks-set [] n k h = absurd (omega (arith, h))
 ranks-set (x ∷ table) zero k h = omega arith
 ranks-set (x ∷ table) (suc n) k h =
@@ -52,29 +53,45 @@ same_or_other : (n m : ℕ) → (n ≡ m) ⊎ (n ≢ m)
 same_or_other n m = grind arith
 
 -- A row tells more than before.
-pub raised-row : (table : List Known) (index : ℕ) (known : Known) → index < length table → AreShallow table → IsShallow (ranks table + 1) known → join (row table index) known ≢ row table index → Raised table (slice_set table index (join (row table index) known)) true
+pub raised-row : (table : List Known) (index : ℕ) (known : Known) → index < length table → AreShallow table
+    → IsShallow (ranks table + 1) known → join (row table index) known ≢ row table index
+    → Raised table (slice_set table index (join (row table index) known)) true
 raised-row table index known inside shallow fits ne =
     let joined : Known = join (row table index) known in
     let new : List Known = slice_set table index joined in
-    let more : ranks table < ranks new = omega (arith, ranks-set table index joined inside, rises (row table index) known ne) in
+    let more : ranks table < ranks new =
+    omega (arith, ranks-set table index joined inside, rises (row table index) known ne) in
     record {
       size = length-set table index joined;
       same = λ e. cc;
       more = λ e. more;
       grows = λ n. elim (same_or_other n index) [
-        | inl e ↦ subst (λ m. IsBelow (row table m) (row new m)) (sym e) (subst (IsBelow (row table index)) (sym (get_or-set_same table index joined Nothing inside)) (below-join_left (row table index) known))
-        | inr ne' ↦ subst (IsBelow (row table n)) (sym (get_or-set_other table index n joined Nothing ne')) (below-refl (row table n))
+        | inl e ↦ subst (λ m. IsBelow (row table m) (row new m)) (sym e)
+            (subst (IsBelow (row table index)) (sym (get_or-set_same table index joined Nothing inside))
+            (below-join_left (row table index) known))
+        | inr ne' ↦ subst (IsBelow (row table n)) (sym (get_or-set_other table index n joined Nothing ne'))
+            (below-refl (row table n))
       ];
       shallow = λ n. elim (same_or_other n index) [
-        | inl e ↦ subst (λ k. IsShallow (ranks new) k) (sym (ap (row new) e ∙ get_or-set_same table index joined Nothing inside))
-            (shallow-join (ranks new) (row table index) known (shallow-more (ranks table) (ranks new) (row table index) (omega (arith, more)) (shallow index)) (shallow-more (ranks table + 1) (ranks new) known (omega (arith, more)) fits))
+        | inl e ↦ subst (λ k. IsShallow (ranks new) k)
+            (sym (ap (row new) e ∙ get_or-set_same table index joined Nothing inside))
+            (shallow-join (ranks new) (row table index) known
+            (shallow-more (ranks table) (ranks new) (row table index) (omega (arith, more)) (shallow index))
+            (shallow-more (ranks table + 1) (ranks new) known (omega (arith, more)) fits))
         | inr ne' ↦ subst (λ k. IsShallow (ranks new) k) (sym (get_or-set_other table index n joined Nothing ne'))
             (shallow-more (ranks table) (ranks new) (row table n) (omega (arith, more)) (shallow n))
       ];
     }
 
 pub not-raised : (table : List Known) → AreShallow table → Raised table table false
-not-raised table shallow = record { size = refl; same = λ e. refl; more = λ e. cc; grows = λ n. below-refl (row table n); shallow = shallow }
+not-raised table shallow = record {
+  size = refl;
+  same = λ e. refl;
+  more = λ e. cc;
+  grows =
+      λ n. below-refl (row table n);
+  shallow = shallow;
+}
 
 -- a row has a rank of two at most
 pub ranks-bound : (table : List Known) → ranks table ≤ 2 * length table
@@ -103,5 +120,6 @@ shallow-passed n Nothing o s = tt
 shallow-passed n (Depth d) None s = tt
 shallow-passed n (Depth d) (Some operation) s =
     let less : d ≤ n = s in
-    shallow-by_test (nat_le (takes operation) d) (n + 1) d (depth_behind d operation) (λ e. omega (arith, less, one_deeper d operation (leb-true _ _ e)))
+    shallow-by_test (nat_le (takes operation) d) (n + 1) d (depth_behind d operation)
+    (λ e. omega (arith, less, one_deeper d operation (leb-true _ _ e)))
 shallow-passed n Clash o s = tt

@@ -20,11 +20,13 @@ pub either_false : (a b : Bool) → (a || b) ≡ false → (a ≡ false) × (b �
 either_false false b e = (refl, e)
 either_false true b e = cc
 
-raised_more : (old mid new : List Known) (a b : Bool) → Raised old mid a → Raised mid new b → (a || b) ≡ true → ranks old < ranks new
+raised_more : (old mid new : List Known) (a b : Bool) → Raised old mid a → Raised mid new b → (a || b) ≡ true
+    → ranks old < ranks new
 raised_more old mid new true b r r' e = omega (arith, r.more refl, ranks-kept mid new b r')
 raised_more old mid new false b r r' e = omega (arith, ap ranks (r.same refl), r'.more e)
 
-pub raised-both : (old mid new : List Known) (a b : Bool) → Raised old mid a → Raised mid new b → Raised old new (a || b)
+pub raised-both : (old mid new : List Known) (a b : Bool) → Raised old mid a → Raised mid new b
+    → Raised old new (a || b)
 raised-both old mid new a b r r' =
     record {
       size = r'.size ∙ r.size;
@@ -34,19 +36,25 @@ raised-both old mid new a b r r' =
       shallow = r'.shallow;
     }
 
-pub told-both : (instrs : List Instr) (known : Known) (first second : List ℕ) (old mid new : List Known) (a b : Bool) → IsTold instrs known first old mid a → IsTold instrs known second mid new b → IsTold instrs known (first ++ second) old new (a || b)
+pub told-both : (instrs : List Instr) (known : Known) (first second : List ℕ) (old mid new : List Known) (a b : Bool)
+    → IsTold instrs known first old mid a → IsTold instrs known second mid new b
+    → IsTold instrs known (first ++ second) old new (a || b)
 told-both instrs known first second old mid new a b t t' =
     record {
       raised = raised-both old mid new a b t.raised t'.raised;
       told = All-append (λ o. IsBelow known (known_at instrs new o)) first second
-          (λ k d h. below-trans known _ _ (t.told k d h) (known_at-grows instrs mid new _ t'.raised.size t'.raised.grows)) t'.told;
+          (λ k d h. below-trans known _ _ (t.told k d h)
+          (known_at-grows instrs mid new _ t'.raised.size t'.raised.grows)) t'.told;
       below = λ other size below tells.
           t'.below other size
-          (t.below other size below (subst (λ offsets. Tells instrs other known offsets) (take-append_seam first second) (All-take (λ o. IsBelow known (known_at instrs other o)) (length first) (first ++ second) tells)))
-          (subst (λ offsets. Tells instrs other known offsets) (drop-append_seam first second) (All-drop (λ o. IsBelow known (known_at instrs other o)) (length first) (first ++ second) tells));
+          (t.below other size below (subst (λ offsets. Tells instrs other known offsets) (take-append_seam first second)
+          (All-take (λ o. IsBelow known (known_at instrs other o)) (length first) (first ++ second) tells)))
+          (subst (λ offsets. Tells instrs other known offsets) (drop-append_seam first second)
+          (All-drop (λ o. IsBelow known (known_at instrs other o)) (length first) (first ++ second) tells));
     }
 
-pub told-nothing : (instrs : List Instr) (known : Known) (table : List Known) → AreShallow table → IsTold instrs known [] table table false
+pub told-nothing : (instrs : List Instr) (known : Known) (table : List Known) → AreShallow table
+    → IsTold instrs known [] table table false
 told-nothing instrs known table shallow =
     record {
       raised = not-raised table shallow;
@@ -54,7 +62,10 @@ told-nothing instrs known table shallow =
       below = λ other size below tells. below;
     }
 
-pub told-one : (instrs : List Instr) (known : Known) (offset : ℕ) (old new : List Known) (any : Bool) → Raised old new any → IsBelow known (known_at instrs new offset) → ((other : List Known) → length other ≡ length instrs → AllBelow old other → IsBelow known (known_at instrs other offset) → AllBelow new other) → IsTold instrs known (offset ∷ []) old new any
+pub told-one : (instrs : List Instr) (known : Known) (offset : ℕ) (old new : List Known) (any : Bool)
+    → Raised old new any → IsBelow known (known_at instrs new offset)
+    → ((other : List Known) → length other ≡ length instrs → AllBelow old other
+    → IsBelow known (known_at instrs other offset) → AllBelow new other) → IsTold instrs known (offset ∷ []) old new any
 told-one instrs known offset old new any raised tells below =
     record {
       raised = raised;
@@ -63,18 +74,24 @@ told-one instrs known offset old new any raised tells below =
     }
 
 -- what the table tells more than before is no more than a solution tells
-pub told-below : (instrs : List Instr) (i : Instr) (n : ℕ) (known : Known) (old new other : List Known) (any : Bool) → n < length instrs → slice_get instrs n ≡ Some i → known ≡ passed_on (row old n) (operation_of i.op i.operand) → IsTold instrs known (leads_to i) old new any → IsSolution instrs other → AllBelow old other → AllBelow new other
+pub told-below : (instrs : List Instr) (i : Instr) (n : ℕ) (known : Known) (old new other : List Known) (any : Bool)
+    → n < length instrs → slice_get instrs n ≡ Some i → known ≡ passed_on (row old n) (operation_of i.op i.operand)
+    → IsTold instrs known (leads_to i) old new any → IsSolution instrs other → AllBelow old other → AllBelow new other
 told-below instrs i n known old new other any inside there is told solution within =
     told.below other solution.size within
     (λ k d h. below-trans known (passed_on (row other n) (operation_of i.op i.operand)) _
-    (subst (λ x. IsBelow x (passed_on (row other n) (operation_of i.op i.operand))) (sym is) (below-passed (row old n) (row other n) (operation_of i.op i.operand) (within n)))
+    (subst (λ x. IsBelow x (passed_on (row other n) (operation_of i.op i.operand))) (sym is)
+    (below-passed (row old n) (row other n) (operation_of i.op i.operand) (within n)))
     (solution.closed n inside i there k d h))
 
 -- where no row was raised, the table tells it at each offset
-pub told-closed : (instrs : List Instr) (i : Instr) (n : ℕ) (known : Known) (old new : List Known) (any : Bool) → slice_get instrs n ≡ Some i → known ≡ passed_on (row old n) (operation_of i.op i.operand) → IsTold instrs known (leads_to i) old new any → any ≡ false → IsClosedAt instrs new n
+pub told-closed : (instrs : List Instr) (i : Instr) (n : ℕ) (known : Known) (old new : List Known) (any : Bool)
+    → slice_get instrs n ≡ Some i → known ≡ passed_on (row old n) (operation_of i.op i.operand)
+    → IsTold instrs known (leads_to i) old new any → any ≡ false → IsClosedAt instrs new n
 told-closed instrs i n known old new any there is told none = λ j e.
     let same : Some i ≡ Some j = sym there ∙ e in
     let i-is : i ≡ j = cc in
-    let known' : known ≡ passed_on (row new n) (operation_of i.op i.operand) = is ∙ ap (λ table. passed_on (row table n) (operation_of i.op i.operand)) (sym (told.raised.same none)) in
+    let known' : known ≡ passed_on (row new n) (operation_of i.op i.operand) = is
+    ∙ ap (λ table. passed_on (row table n) (operation_of i.op i.operand)) (sym (told.raised.same none)) in
     subst (λ j. Tells instrs new (passed_on (row new n) (operation_of j.op j.operand)) (leads_to j)) i-is
     (subst (λ x. Tells instrs new x (leads_to i)) known' told.told)

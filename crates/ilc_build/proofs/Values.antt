@@ -23,10 +23,12 @@ wrapped_low (negsuc n) =
 -- a register has what 32 bits leave of its number
 register_wrapped : (z : ℤ) → int_wrap w32 (pos (low_bits 64 z)) ≡ int_wrap w32 z
 register_wrapped (pos n) =
-    let far : pos (n % 2 ^ 64) +ℤ pos ((n / 2 ^ 64 * 2 ^ 32) * 2 ^ 32) ≡ pos n +ℤ pos (0 * 2 ^ 32) = omega (arith, ints) in
+    let far : pos (n % 2 ^ 64) +ℤ pos ((n / 2 ^ 64 * 2 ^ 32) * 2 ^ 32) ≡ pos n +ℤ pos (0 * 2 ^ 32) =
+    omega (arith, ints) in
     int_wrap-same w32 (pos (n % 2 ^ 64)) (pos n) (n / 2 ^ 64 * 2 ^ 32) 0 far
 register_wrapped (negsuc n) =
-    let far : pos (2 ^ 64 - 1 - n % 2 ^ 64) +ℤ pos (0 * 2 ^ 32) ≡ negsuc n +ℤ pos (((n / 2 ^ 64 + 1) * 2 ^ 32) * 2 ^ 32) = omega (arith, ints) in
+    let far : pos (2 ^ 64 - 1 - n % 2 ^ 64) +ℤ pos (0 * 2 ^ 32) ≡ negsuc n +ℤ pos (((n / 2 ^ 64 + 1) * 2 ^ 32) * 2 ^ 32)
+    = omega (arith, ints) in
     int_wrap-same w32 (pos (2 ^ 64 - 1 - n % 2 ^ 64)) (negsuc n) 0 ((n / 2 ^ 64 + 1) * 2 ^ 32) far
 
 word_of : (z z' : ℤ) → int_wrap w32 z ≡ int_wrap w32 z' → low_word z ≡ low_bits 64 (held I4 z')
@@ -41,7 +43,8 @@ sum_value a b =
     (sym (int_wrap-sum w32 x y) ∙ ap (λ u. int_wrap w32 (u +ℤ int_wrap w32 y)) (register_wrapped a)
     ∙ ap (λ v. int_wrap w32 (int_wrap w32 a +ℤ v)) (register_wrapped b) ∙ int_wrap-sum w32 a b)
 
-pub difference_value : (a b : ℤ) → low_word (pos (low_bits 64 a) -ℤ pos (low_bits 64 b)) ≡ low_bits 64 (held I4 (a -ℤ b))
+pub difference_value : (a b : ℤ) → low_word (pos (low_bits 64 a) -ℤ pos (low_bits 64 b)) ≡ low_bits 64
+    (held I4 (a -ℤ b))
 difference_value a b =
     let x : ℤ = pos (low_bits 64 a) in
     let y : ℤ = pos (low_bits 64 b) in

@@ -4,4 +4,5 @@ use Rattle.ilc_build.specs.Depths.{first_against as first_against_of}
 use Rattle.ilc_build.proofs.bare.first_against.Given as goal
 
 abbrev pub invariant-loop-index : goal.invariant-loop-index
-invariant-loop-index l = first_against_of (test_of l.test l.instrs) l.instrs l.table ≡ first_against_of (test_of l.test l.instrs) (drop l.index l.instrs) (drop l.index l.table)
+invariant-loop-index l = first_against_of (test_of l.test l.instrs) l.instrs l.table ≡ first_against_of
+    (test_of l.test l.instrs) (drop l.index l.instrs) (drop l.index l.table)

@@ -12,4 +12,5 @@ returns-clause-raised c =
     let old : Known = row table c.args.index in
     let ne : c.join-joined.result ≢ old = search rules in
     subst (λ k. Raised table (slice_set table c.args.index k) true) (sym c.join-joined.ensures)
-    (raised-row table c.args.index c.args.known c.requires.within c.requires.shallow c.requires.known (subst (λ k. k ≢ old) c.join-joined.ensures ne))
+    (raised-row table c.args.index c.args.known c.requires.within c.requires.shallow c.requires.known
+    (subst (λ k. k ≢ old) c.join-joined.ensures ne))
