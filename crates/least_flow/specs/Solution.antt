@@ -21,25 +21,32 @@ abbrev pub Tells : {Fact : Type 0} → (Fact → Fact → Type 0) → List (Opti
 Tells IsBelow table place fact = place < length table → IsRowBelow IsBelow (Some fact) (row table place)
 
 -- all that is passed on from a place is told
-abbrev pub IsClosedAt : {Fact : Type 0} → (Fact → Fact → Type 0) → (ℕ → Fact → ℕ → Fact → Type 0) → List (Option Fact) → ℕ → Type 0
+abbrev pub IsClosedAt : {Fact : Type 0} → (Fact → Fact → Type 0) → (ℕ → Fact → ℕ → Fact → Type 0) → List (Option Fact)
+    → ℕ → Type 0
 IsClosedAt {Fact} IsBelow Passes table place =
-    (known : Fact) → row table place ≡ Some known → (to : ℕ) (fact : Fact) → Passes place known to fact → Tells IsBelow table to fact
+    (known : Fact) → row table place ≡ Some known → (to : ℕ) (fact : Fact) → Passes place known to fact
+    → Tells IsBelow table to fact
 
 -- A table that tells all that is told from the start, and all that is passed on from what it tells.
-pub record IsSolution {Fact : Type 0} (IsBelow : Fact → Fact → Type 0) (Starts : ℕ → Fact → Type 0) (Passes : ℕ → Fact → ℕ → Fact → Type 0) (table : List (Option Fact)) : Type 0 where
+pub record IsSolution {Fact : Type 0} (IsBelow : Fact → Fact → Type 0) (Starts : ℕ → Fact → Type 0)
+    (Passes : ℕ → Fact → ℕ → Fact → Type 0) (table : List (Option Fact)) : Type 0 where
   pub started : (place : ℕ) (fact : Fact) → Starts place fact → Tells IsBelow table place fact
   pub closed : (place : ℕ) → IsClosedAt IsBelow Passes table place
 
 -- the solution that tells no more than any other of its size
-pub record IsLeast {Fact : Type 0} (IsBelow : Fact → Fact → Type 0) (Starts : ℕ → Fact → Type 0) (Passes : ℕ → Fact → ℕ → Fact → Type 0) (table : List (Option Fact)) : Type 0 where
+pub record IsLeast {Fact : Type 0} (IsBelow : Fact → Fact → Type 0) (Starts : ℕ → Fact → Type 0)
+    (Passes : ℕ → Fact → ℕ → Fact → Type 0) (table : List (Option Fact)) : Type 0 where
   pub solution : IsSolution IsBelow Starts Passes table
-  pub least : (other : List (Option Fact)) → length other ≡ length table → IsSolution IsBelow Starts Passes other → AllBelow IsBelow table other
+  pub least : (other : List (Option Fact)) → length other ≡ length table → IsSolution IsBelow Starts Passes other
+      → AllBelow IsBelow table other
 
 -- one of the facts for a place tells as much
 abbrev pub HasFact : {Fact : Type 0} → (Fact → Fact → Type 0) → List (ℕ × Fact) → ℕ → Fact → Type 0
 HasFact {Fact} IsBelow facts place fact = (given : Fact) × Contains facts (place, given) × IsBelow fact given
 
 -- These facts for places say all that is told, and no more.
-pub record AreTold {Fact : Type 0} (IsBelow : Fact → Fact → Type 0) (IsTold : ℕ → Fact → Type 0) (facts : List (ℕ × Fact)) : Type 0 where
+pub record AreTold {Fact : Type 0} (IsBelow : Fact → Fact → Type 0) (IsTold : ℕ → Fact → Type 0)
+    (facts : List (ℕ × Fact)) : Type 0 where
   pub all : (place : ℕ) (fact : Fact) → IsTold place fact → HasFact IsBelow facts place fact
-  pub only : (place : ℕ) (given : Fact) → Contains facts (place, given) → (fact : Fact) × IsTold place fact × IsBelow given fact
+  pub only : (place : ℕ) (given : Fact) → Contains facts (place, given)
+      → (fact : Fact) × IsTold place fact × IsBelow given fact

@@ -7,8 +7,5 @@ mod solve;
 pub use flow::Flow;
 pub use solve::least_solution;
 
-
-
-
 #[cfg(test)]
 mod tests;

@@ -20,7 +20,7 @@ impl Flow for Ring {
 
     ghost starts = { λ ring place fact. (place ≡ 0) × (fact ≡ 1) };
 
-    ghost passes = { λ ring place known to fact. 
+    ghost passes = { λ ring place known to fact.
         (to ≡ (if place + 1 == ring.places then 0 else place + 1)) × (fact ≡ min (known + 1) 5) };
 
     ghost is_within = { λ ring n a. a < 256 };

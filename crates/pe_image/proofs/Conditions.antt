@@ -4,7 +4,8 @@ use Rattle.pe_image.specs.Conditions.{Condition, first_fault}
 use Rattle.pe_image.specs.declared.fault.PeFault.{PeFault}
 
 -- a condition that holds in front of others that hold
-pub first_held : (b : Bool) (fault : PeFault) (x : Option PeFault) → cond b x (Some fault) ≡ None → (b ≡ true) × (x ≡ None)
+pub first_held : (b : Bool) (fault : PeFault) (x : Option PeFault) → cond b x (Some fault) ≡ None
+    → (b ≡ true) × (x ≡ None)
 first_held true fault x h = (refl, h)
 first_held false fault x h = cc
 
@@ -16,7 +17,8 @@ passes (c ∷ a) b h =
     rw both.0 (passes a b both.1)
 
 -- the first that doesn't hold decides
-stops-by : (t : Bool) (fault f : PeFault) (x y : Option PeFault) → (x ≡ Some f → y ≡ Some f) → cond t x (Some fault) ≡ Some f → cond t y (Some fault) ≡ Some f
+stops-by : (t : Bool) (fault f : PeFault) (x y : Option PeFault) → (x ≡ Some f → y ≡ Some f)
+    → cond t x (Some fault) ≡ Some f → cond t y (Some fault) ≡ Some f
 stops-by true fault f x y step h = step h
 stops-by false fault f x y step h = h
 

@@ -1,5 +1,6 @@
 -- Conditions of a format in their order, each with the refusal where it doesn't hold.
-use Rattle.std.specs.Prelude.{ℕ, ◌+◌, Bool, true, false, nat_le, if◌then◌else◌, List, [], ◌∷◌, length, drop, Option, Some, None, Result, Ok, Err, ◌≡◌}
+use Rattle.std.specs.Prelude.{ℕ, ◌+◌, Bool, true, false, nat_le, if◌then◌else◌, List, [], ◌∷◌, length, drop, Option}
+use Rattle.std.specs.Prelude.{Some, None, Result, Ok, Err, ◌≡◌}
 use Rattle.byteorder.specs.Endian.{little_number}
 use Rattle.pe_image.specs.declared.fault.PeFault.{PeFault}
 

@@ -1,5 +1,6 @@
 -- A PE file that holds metadata: ECMA-335 II.24.2.1, II.25.2 and II.25.3.3.
-use Rattle.std.specs.Prelude.{ℕ, ◌+◌, ◌*◌, ◌%◌, ◌==◌, ◌||◌, ◌&&◌, Bool, false, nat_eq, nat_le, if◌then◌else◌, List, [], ◌∷◌, ◌++◌, length, take, drop, codes, Option, Some, None}
+use Rattle.std.specs.Prelude.{ℕ, ◌+◌, ◌*◌, ◌%◌, ◌==◌, ◌||◌, ◌&&◌, Bool, false, nat_eq, nat_le, if◌then◌else◌, List, []}
+use Rattle.std.specs.Prelude.{◌∷◌, ◌++◌, length, take, drop, codes, Option, Some, None}
 use Rattle.std.specs.List.{starts_with}
 use Rattle.pe_image.specs.Conditions.{Condition, number_at, fits}
 use Rattle.pe_image.specs.Sections.{sections_at, headers_fit, parts_fit, place_of}

@@ -1,5 +1,6 @@
 -- Sections of a file, and where an address of the image lies in it: ECMA-335 II.25.3.
-use Rattle.std.specs.Prelude.{ℕ, zero, suc, ◌+◌, ◌-◌, ◌*◌, ◌<◌, ◌≤◌, ◌&&◌, Bool, length, nat_le, nat_lt, if◌then◌else◌, List, [], ◌∷◌, map, find, take, drop, All, Option, Some, None}
+use Rattle.std.specs.Prelude.{ℕ, zero, suc, ◌+◌, ◌-◌, ◌*◌, ◌<◌, ◌≤◌, ◌&&◌, Bool, length, nat_le, nat_lt, if◌then◌else◌}
+use Rattle.std.specs.Prelude.{List, [], ◌∷◌, map, find, take, drop, All, Option, Some, None}
 use Rattle.std.specs.Option.{option_map}
 use Rattle.pe_image.specs.Conditions.{Condition, number_at, fits}
 use Rattle.pe_image.specs.declared.fault.PeFault.TheVariants.{Cut}
@@ -8,7 +9,8 @@ use Rattle.pe_image.specs.declared.section.Section.{Section}
 -- the header of a section: VirtualAddress at 12, SizeOfRawData at 16 and PointerToRawData at 20
 abbrev pub section_at : List ℕ → ℕ → Section
 section_at file at =
-    record { address = number_at file 4 (at + 12); size = number_at file 4 (at + 16); pointer = number_at file 4 (at + 20) }
+    record { address = number_at file 4 (at + 12); size = number_at file 4 (at + 16); pointer = number_at file 4
+        (at + 20) }
 
 -- so many headers of 40 bytes each, from a place on
 abbrev pub sections_at : List ℕ → ℕ → ℕ → List Section

@@ -1,5 +1,7 @@
 -- The metadata root and its streams: ECMA-335 II.24.2.1 and II.24.2.2.
-use Rattle.std.specs.Prelude.{◌≡◌, ◌≤◌, All, ℕ, zero, suc, ◌+◌, ◌*◌, ◌/◌, ◌==◌, false, is_some, if◌then◌else◌, List, [], ◌∷◌, ◌++◌, length, map, find, take, drop, position, codes, Option, Some, None, Result, Ok, Err}
+use Rattle.std.specs.Prelude.{◌≡◌, ◌≤◌, All, ℕ, zero, suc, ◌+◌, ◌*◌, ◌/◌, ◌==◌, false, is_some, if◌then◌else◌, List, []}
+use Rattle.std.specs.Prelude.{◌∷◌, ◌++◌, length, map, find, take, drop, position, codes, Option, Some, None, Result, Ok}
+use Rattle.std.specs.Prelude.{Err}
 use Rattle.std.specs.Option.{option_and_then, option_map}
 use Rattle.std.specs.Str.{bytes_eq}
 use Rattle.pe_image.specs.Conditions.{Condition, number_at, fits}

@@ -1,7 +1,9 @@
 ghost use Rattle.std.specs.Prelude.{◌≡◌, ◌+◌, ◌*◌, ◌≤◌, ◌<◌, ◌^◌, length, IfOk, OnOk, IfSome};
 ghost use Rattle.pe_image.specs.Conditions.{Answers, number_at};
 ghost use Rattle.pe_image.specs.Sections.{IsWhole, ArePartsWhole, sections_at};
-ghost use Rattle.pe_image.specs.Pe.{cli_conditions, cli_at, metadata_at, somewhere as somewhere_in, sections, section_count, sections_place, optional_place, directories_size, cli_place, metadata_place, metadata_size};
+ghost use Rattle.pe_image.specs.Pe.{cli_conditions, cli_at, metadata_at, somewhere as somewhere_in, sections};
+ghost use Rattle.pe_image.specs.Pe.{section_count, sections_place, optional_place, directories_size, cli_place};
+ghost use Rattle.pe_image.specs.Pe.{metadata_place, metadata_size};
 
 use crate::bytes::word_at;
 use crate::fault::PeFault;

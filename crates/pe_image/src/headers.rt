@@ -1,6 +1,7 @@
 ghost use Rattle.std.specs.Prelude.{◌≡◌, ◌+◌, ◌≤◌, ◌<◌, ◌^◌, length, OnOk, IfOk};
 ghost use Rattle.pe_image.specs.Conditions.{Answers, number_at};
-ghost use Rattle.pe_image.specs.Pe.{header_conditions, optional_place, directory_count_place as directory_count_place_in, directories_size};
+ghost use Rattle.pe_image.specs.Pe.{header_conditions, optional_place};
+ghost use Rattle.pe_image.specs.Pe.{directory_count_place as directory_count_place_in, directories_size};
 
 use crate::bytes::{fits, half_at, word_at};
 use crate::fault::PeFault;

@@ -2,7 +2,8 @@ ghost use Rattle.std.specs.Prelude.{◌≡◌, ◌+◌, ◌*◌, ◌≤◌, ◌<
 ghost use Rattle.std.specs.Option.{option_map};
 ghost use Rattle.pe_image.specs.Conditions.{Answers, first_fault};
 ghost use Rattle.pe_image.specs.Sections.{sections_at, IsWhole, ArePartsWhole, bytes_from};
-ghost use Rattle.pe_image.specs.Pe.{conditions, parts_of, optional_place, section_count, sections_place, metadata as metadata_in, metadata_place, metadata_size};
+ghost use Rattle.pe_image.specs.Pe.{conditions, parts_of, optional_place, section_count, sections_place};
+ghost use Rattle.pe_image.specs.Pe.{metadata as metadata_in, metadata_place, metadata_size};
 
 use crate::bytes::{half_at, part, word_at};
 use crate::cli::{Located, Sections, locate};
@@ -55,8 +56,8 @@ impl<'a> Model for Image<'a> {
 
 /// The image in the bytes of a file.
 ///
-/// `NotPe`, `NoCliHeader` and `Cut` each tell the first condition of the format that doesn't hold: headers, sections, the
-/// CLI header, the metadata root, its streams. `Cut` tells the place of what isn't whole.
+/// `NotPe`, `NoCliHeader` and `Cut` each tell the first condition of the format that doesn't hold, in the order of
+/// headers, sections, the CLI header, the metadata root and its streams. `Cut` tells the place of what isn't whole.
 pub fn open_image(bytes: &[u8]) -> Result<Image<'_>, PeFault>
     requires { length bytes.now < 2 ^ 32 }
     ensures opened { IfOk result (λ image. image ≡ parts_of bytes.now) }

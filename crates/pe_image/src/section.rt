@@ -1,6 +1,7 @@
 ghost use Rattle.std.specs.Prelude.{◌≡◌, ◌+◌, ◌*◌, ◌≤◌, ◌<◌, ◌^◌, length, OnOk, IfSome};
 ghost use Rattle.pe_image.specs.Conditions.{Answers};
-ghost use Rattle.pe_image.specs.Sections.{section_at as section_in, sections_at, IsWhole, ArePartsWhole, headers_fit, parts_fit, holds as holds_in, place_of as place_in};
+ghost use Rattle.pe_image.specs.Sections.{section_at as section_in, sections_at, IsWhole, ArePartsWhole, headers_fit};
+ghost use Rattle.pe_image.specs.Sections.{parts_fit, holds as holds_in, place_of as place_in};
 
 use crate::bytes::{fits, word_at};
 use crate::fault::PeFault;
@@ -69,8 +70,8 @@ pub(crate) fn check_parts(file: &[u8], count: u16, place: usize) -> Result<(), P
     Ok(())
 }
 
-/// The place in the file of the byte of an address, and how many bytes its section has from there on; none where none of
-/// so many sections holds the address.
+/// The place in the file of the byte of an address, and how many bytes its section has from there on; none where none
+/// of so many sections holds the address.
 pub(crate) fn place_of(file: &[u8], count: u16, place: usize, rva: u32) -> Option<(usize, usize)>
     requires whole { IsWhole file.now count place }
     requires parts { ArePartsWhole file.now (sections_at file.now count place) }

@@ -2,7 +2,10 @@ ghost use Rattle.std.specs.Prelude.{◌≡◌, ◌+◌, ◌<◌, ◌≤◌, ◌^
 ghost use Rattle.std.specs.Option.{option_map};
 ghost use Rattle.std.specs.Str.{bytes_eq};
 ghost use Rattle.pe_image.specs.Conditions.{Answers};
-ghost use Rattle.pe_image.specs.Streams.{root_conditions, header_conditions, stream_conditions, stream_at, streams_at, stream_count, streams_place, header_size as size_of_header, name_length as name_length_in, bytes_of, stream_named, header as header_in, whole_streams, AreWhole, AreWithin, metadata_conditions, stream};
+ghost use Rattle.pe_image.specs.Streams.{root_conditions, header_conditions, stream_conditions, stream_at, streams_at};
+ghost use Rattle.pe_image.specs.Streams.{stream_count, streams_place, header_size as size_of_header};
+ghost use Rattle.pe_image.specs.Streams.{name_length as name_length_in, bytes_of, stream_named, header as header_in};
+ghost use Rattle.pe_image.specs.Streams.{whole_streams, AreWhole, AreWithin, metadata_conditions, stream};
 
 use crate::bytes::{fits, half_at, part, word_at};
 use crate::fault::PeFault;
@@ -125,8 +128,8 @@ pub(crate) fn check_streams(root: &[u8], at: usize, count: u16, place: usize) ->
     Ok(())
 }
 
-/// The streams of a root that stands at `at` in the file are whole, and the one of the tables is there. The number and the
-/// place of their headers.
+/// The streams of a root that stands at `at` in the file are whole, and the one of the tables is there. The number and
+/// the place of their headers.
 pub(crate) fn check_metadata(root: &[u8], at: usize) -> Result<(u16, usize), PeFault>
     requires at { at < 2 ^ 32 }
     requires few { length root.now < 2 ^ 32 }

@@ -48,7 +48,7 @@ fn changed(alloc: Global, at: usize, byte: u8) -> Result<Option<PeFault>, AllocE
     Ok(refusal(file.as_slice()))
 }
 
-/// The sizes of the streams and the entry token are those that `monodis` tells, and so is the place of the body of `Main`.
+/// The sizes of the streams are those that another reader finds; `monodis` tells the entry and the body of `Main`.
 #[test]
 fn opens_an_image(rt: HostRuntime) {
     if IMAGE.len() <= 4096
@@ -90,8 +90,8 @@ fn refuses_prefixes(rt: HostRuntime) {
     }
 }
 
-/// One byte each: "MZ", the place of "PE", "PE", the magic, the number of directories, the CLI header's address, its flags,
-/// the metadata's size, "BSJB", a section's place, and the size and the name of the stream of the tables.
+/// One byte each: "MZ", the place of "PE", "PE", the magic, the number of directories, the CLI header's address, its
+/// flags, the metadata's size, "BSJB", a section's place, and the size and the name of the stream of the tables.
 #[test]
 fn refuses_changes(rt: HostRuntime) -> Result<(), std::test::Fail> {
     for (at, byte, fault) in [

@@ -7,7 +7,8 @@ use Rattle.pe_image.proofs.stream.check_headers.Given as goal
 abbrev pub invariant-loop-left : goal.invariant-loop-left
 invariant-loop-left l = record {
   inside : l.place ≤ length l.root;
-  same : first_fault (header_conditions l.at (streams_at l.root l.count l.initial.place)) ≡ first_fault (header_conditions l.at (streams_at l.root l.left l.place));
+  same : first_fault (header_conditions l.at (streams_at l.root l.count l.initial.place)) ≡ first_fault
+      (header_conditions l.at (streams_at l.root l.left l.place));
 }
 
 abbrev pub decreases-loop-left : goal.decreases-loop-left

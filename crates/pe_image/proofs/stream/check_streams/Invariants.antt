@@ -8,7 +8,9 @@ abbrev pub invariant-loop-left : goal.invariant-loop-left
 invariant-loop-left l = record {
   inside : l.place ≤ length l.root;
   whole : AreWhole l.root l.left l.place;
-  same : first_fault (stream_conditions l.at l.root (whole_streams (streams_at l.root l.count l.initial.place))) ≡ first_fault (stream_conditions l.at l.root (whole_streams (streams_at l.root l.left l.place)));
+  same : first_fault
+      (stream_conditions l.at l.root (whole_streams (streams_at l.root l.count l.initial.place))) ≡ first_fault
+      (stream_conditions l.at l.root (whole_streams (streams_at l.root l.left l.place)));
 }
 
 abbrev pub decreases-loop-left : goal.decreases-loop-left

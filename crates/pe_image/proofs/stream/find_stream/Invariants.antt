@@ -8,7 +8,8 @@ invariant-loop-left l = record {
   inside : l.place ≤ length l.root;
   whole : AreWhole l.root l.left l.place;
   within : AreWithin l.root (whole_streams (streams_at l.root l.left l.place));
-  same : stream_named l.name (whole_streams (streams_at l.root l.count l.initial.place)) ≡ stream_named l.name (whole_streams (streams_at l.root l.left l.place));
+  same : stream_named l.name (whole_streams (streams_at l.root l.count l.initial.place)) ≡ stream_named l.name
+      (whole_streams (streams_at l.root l.left l.place));
 }
 
 abbrev pub decreases-loop-left : goal.decreases-loop-left
