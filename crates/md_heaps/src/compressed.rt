@@ -55,5 +55,4 @@ fn four_bytes(bytes: &[u8]) -> Option<(u32, usize)>
 pub fn spellings_are_read()
     ensures { (n : ℕ) (rest : List ℕ) → n < 2 ^ 29 →
         compressed (spelling n ++ rest) ≡ Some (n, length (spelling n)) }
-{
-}
+{}
