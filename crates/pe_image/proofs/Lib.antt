@@ -1,0 +1,4 @@
+pub mod Conditions
+pub mod Opening
+pub mod Sections
+pub mod Streams

@@ -1,0 +1,4 @@
+pub mod Conditions
+pub mod Sections
+pub mod Streams
+pub mod Pe
