@@ -19,13 +19,13 @@ sections-of : (file : List ℕ) (n p : ℕ) (x : Option PeFault) → Holds file 
     → first_fault (headers_fit file (section_count file) (sections_place file)) ≡ x
 sections-of file n p x h e =
     subst (λ m. first_fault (headers_fit file m (sections_place file)) ≡ x) h.count
-        (subst (λ q. first_fault (headers_fit file n q) ≡ x) h.place e)
+    (subst (λ q. first_fault (headers_fit file n q) ≡ x) h.place e)
 
 parts-of : (file : List ℕ) (n p : ℕ) (x : Option PeFault) → Holds file n p
     → first_fault (parts_fit file (sections_at file n p)) ≡ x → first_fault (parts_fit file (sections file)) ≡ x
 parts-of file n p x h e =
     subst (λ m. first_fault (parts_fit file (sections_at file m (sections_place file))) ≡ x) h.count
-        (subst (λ q. first_fault (parts_fit file (sections_at file n q)) ≡ x) h.place e)
+    (subst (λ q. first_fault (parts_fit file (sections_at file n q)) ≡ x) h.place e)
 
 -- the conditions behind the parts of the sections, behind their headers, and behind the headers of the file
 abbrev behind_parts : List ℕ → List Condition
@@ -51,22 +51,22 @@ pub stops_sections : (file : List ℕ) (n p : ℕ) (fault : PeFault) → Holds f
     → first_fault (headers_fit file n p) ≡ Some fault → first_fault (conditions file) ≡ Some fault
 stops_sections file n p fault h e =
     past_headers file h.headers
-        ∙ stops (headers_fit file (section_count file) (sections_place file)) (behind_sections file) fault
-        (sections-of file n p (Some fault) h e)
+    ∙ stops (headers_fit file (section_count file) (sections_place file)) (behind_sections file) fault
+    (sections-of file n p (Some fault) h e)
 
 past_sections : (file : List ℕ) (n p : ℕ) → Holds file n p → first_fault (headers_fit file n p) ≡ None
     → first_fault (conditions file) ≡ first_fault (behind_sections file)
 past_sections file n p h e =
     past_headers file h.headers
-        ∙ passes (headers_fit file (section_count file) (sections_place file)) (behind_sections file)
-        (sections-of file n p None h e)
+    ∙ passes (headers_fit file (section_count file) (sections_place file)) (behind_sections file)
+    (sections-of file n p None h e)
 
 pub stops_parts : (file : List ℕ) (n p : ℕ) (fault : PeFault) → Holds file n p
     → first_fault (headers_fit file n p) ≡ None → first_fault (parts_fit file (sections_at file n p)) ≡ Some fault
     → first_fault (conditions file) ≡ Some fault
 stops_parts file n p fault h e e' =
     past_sections file n p h e
-        ∙ stops (parts_fit file (sections file)) (behind_parts file) fault (parts-of file n p (Some fault) h e')
+    ∙ stops (parts_fit file (sections file)) (behind_parts file) fault (parts-of file n p (Some fault) h e')
 
 past_parts : (file : List ℕ) (n p : ℕ) → Holds file n p → first_fault (headers_fit file n p) ≡ None
     → first_fault (parts_fit file (sections_at file n p)) ≡ None
@@ -79,7 +79,7 @@ pub stops_cli : (file : List ℕ) (n p : ℕ) (fault : PeFault) → Holds file n
     → first_fault (conditions file) ≡ Some fault
 stops_cli file n p fault h e e' e'' =
     past_parts file n p h e e'
-        ∙ stops (cli_conditions file) (metadata_conditions (metadata_place file) (metadata file)) fault e''
+    ∙ stops (cli_conditions file) (metadata_conditions (metadata_place file) (metadata file)) fault e''
 
 pub last_conditions : (file : List ℕ) (n p at : ℕ) (root : List ℕ) (x : Option PeFault) → Holds file n p
     → first_fault (headers_fit file n p) ≡ None → first_fault (parts_fit file (sections_at file n p)) ≡ None
@@ -87,19 +87,28 @@ pub last_conditions : (file : List ℕ) (n p at : ℕ) (root : List ℕ) (x : Op
     → first_fault (metadata_conditions at root) ≡ x → first_fault (conditions file) ≡ x
 last_conditions file n p at root x h e e' e'' at-is root-is m =
     past_parts file n p h e e'
-        ∙ (passes (cli_conditions file) (metadata_conditions (metadata_place file) (metadata file)) e''
+    ∙ (passes (cli_conditions file) (metadata_conditions (metadata_place file) (metadata file)) e''
     ∙ subst (λ a. first_fault (metadata_conditions a (metadata file)) ≡ x) at-is
-        (subst (λ r. first_fault (metadata_conditions at r) ≡ x) root-is m))
+    (subst (λ r. first_fault (metadata_conditions at r) ≡ x) root-is m))
 
 -- what the file holds, by its fields
 pub parts_are : (file t s u g b : List ℕ) (entry n p : ℕ) → Holds file n p → t ≡ stream (codes "#~") (metadata file)
     → s ≡ stream (codes "#Strings") (metadata file) → u ≡ stream (codes "#US") (metadata file)
     → g ≡ stream (codes "#GUID") (metadata file) → b ≡ stream (codes "#Blob") (metadata file)
     → entry ≡ number_at file 4 (cli_place file + 20)
-    → record { tables = t; strings = s; user = u; guid = g; blob = b; entry = entry; file = file; sections =
-    sections_at file n p } ≡ parts_of file
+    → record {
+      tables = t;
+      strings = s;
+      user = u;
+      guid = g;
+      blob = b;
+      entry = entry;
+      file = file;
+      sections =
+          sections_at file n p;
+    } ≡ parts_of file
 unfolding parts_of
 parts_are file t s u g b entry n p h et es eu eg eb ee =
     let e : sections_at file n p ≡ sections file = ap (λ m. sections_at file m p) h.count
-        ∙ ap (sections_at file (section_count file)) h.place in
+    ∙ ap (sections_at file (section_count file)) h.place in
     cc

@@ -17,7 +17,7 @@ pub headers_on : (file : List ℕ) (n m at at' : ℕ) → n ≡ suc m → at' �
     (Some (Cut at))
 headers_on file n m at at' e e' =
     ap (λ k. first_fault (headers_fit file k at)) e
-        ∙ ap (λ x. cond (fits file at 40) (first_fault (headers_fit file m x)) (Some (Cut at))) (sym e')
+    ∙ ap (λ x. cond (fits file at 40) (first_fault (headers_fit file m x)) (Some (Cut at))) (sym e')
 
 pub headers_whole : (file : List ℕ) (count at : ℕ) → first_fault (headers_fit file count at) ≡ None
     → IsWhole file count at
@@ -35,7 +35,7 @@ pub parts_on : (file : List ℕ) (n m at at' : ℕ) → n ≡ suc m → at' ≡ 
 parts_on file n m at at' e e' =
     ap (λ k. first_fault (parts_fit file (sections_at file k at))) e
     ∙ ap (λ x. cond (fits file (section_at file at).pointer (section_at file at).size)
-        (first_fault (parts_fit file (sections_at file m x))) (Some (Cut (section_at file at).pointer))) (sym e')
+    (first_fault (parts_fit file (sections_at file m x))) (Some (Cut (section_at file at).pointer))) (sym e')
 
 pub parts_whole : (file : List ℕ) (sections : List Section) → first_fault (parts_fit file sections) ≡ None
     → ArePartsWhole file sections
@@ -55,9 +55,9 @@ pub place_on : (file : List ℕ) (rva n m at at' : ℕ) → n ≡ suc m → at' 
 place_on file rva n m at at' e e' =
     ap (λ k. place_of (sections_at file k at) rva) e
     ∙ (mapped (holds rva (section_at file at)) rva (section_at file at)
-        (find (holds rva) (sections_at file m (at + 40)))
+    (find (holds rva) (sections_at file m (at + 40)))
     ∙ ap (λ x. cond (holds rva (section_at file at)) (Some (place_in rva (section_at file at)))
-        (place_of (sections_at file m x) rva)) (sym e'))
+    (place_of (sections_at file m x) rva)) (sym e'))
 
 -- the section of a number
 pub section_is : (file : List ℕ) (count at index : ℕ) (d : Section) → index < count
@@ -66,7 +66,7 @@ section_is file zero at index d h = absurd (omega (arith, h))
 section_is file (suc count) at zero d h = ap (section_at file) (let e : at ≡ at + 40 * 0 = omega arith in e)
 section_is file (suc count) at (suc index) d h =
     section_is file count (at + 40) index d (omega (arith, h))
-        ∙ ap (section_at file) (let e : at + 40 + 40 * index ≡ at + 40 * suc index = omega arith in e)
+    ∙ ap (section_at file) (let e : at + 40 + 40 * index ≡ at + 40 * suc index = omega arith in e)
 
 pub sections_length : (file : List ℕ) (count at : ℕ) → length (sections_at file count at) ≡ count
 sections_length file zero at = refl
@@ -81,5 +81,5 @@ pub within_section : (size rva : ℕ) (s : Section) → holds rva s ≡ true →
     → s.pointer + (rva - s.address) + (s.size - (rva - s.address)) ≤ size
 within_section size rva s h fits =
     let inside : rva < s.address + s.size = ltb-true _ _
-        (right_true (nat_le s.address rva) (nat_lt rva (s.address + s.size)) h) in
+    (right_true (nat_le s.address rva) (nat_lt rva (s.address + s.size)) h) in
     omega (arith, inside, fits)

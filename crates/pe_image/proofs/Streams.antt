@@ -59,7 +59,7 @@ pub whole_on : (root : List ℕ) (n m place size length : ℕ) → n ≡ suc m �
     → AreWhole root n place → AreWhole root m (place + size)
 whole_on root n m place size length e h whole =
     behind (stream_at root place length) (streams_at root m (place + size)) whole.0
-        (sym (streams_on root n m place size length e h) ∙ whole.1)
+    (sym (streams_on root n m place size length e h) ∙ whole.1)
 
 pub not_cut : (root : List ℕ) (n m place : ℕ) → n ≡ suc m → header root place ≡ None → AreWhole root n place → ⊥
 not_cut root n m place e h whole = let err : Err place ≡ Ok whole.0 = sym (streams_cut root n m place e h)
@@ -78,7 +78,7 @@ pub list_on : (root : List ℕ) (n m place size length : ℕ) → n ≡ suc m �
 list_on root n m place size length e h whole =
     let rest = whole_on root n m place size length e h whole in
     ap whole_streams (streams_on root n m place size length e h)
-        ∙ front-streams (stream_at root place length) (streams_at root m (place + size)) rest.0 rest.1
+    ∙ front-streams (stream_at root place length) (streams_at root m (place + size)) rest.0 rest.1
 
 pub conditions_on : (at : ℕ) (root : List ℕ) (n m place size length : ℕ) → n ≡ suc m
     → header root place ≡ Some (size, length) → AreWhole root n place
@@ -94,7 +94,7 @@ pub streams_within : (at : ℕ) (root : List ℕ) (streams : List Stream)
 streams_within at root [] h = All-nil _
 streams_within at root (s ∷ streams) h =
     let both = first_held (fits root s.at s.size) (Cut (at + s.at)) (first_fault (stream_conditions at root streams))
-        h in
+    h in
     All-cons (λ s. s.at + s.size ≤ length root) s streams (leb-true _ _ both.0) (streams_within at root streams both.1)
 
 -- ---- the conditions on a root, part by part; n and p are the number of its streams and the place of their headers
@@ -121,7 +121,7 @@ streams_stop at root n p fault e e' h h' h'' =
     past-headers at root n p e e' h h'
     ∙ stops (stream_conditions at root (streams_of root)) (has_tables (streams_of root)) fault
     (subst (λ r. first_fault (stream_conditions at root (whole_streams r)) ≡ Some fault)
-        (streams-are root n p e e') h'')
+    (streams-are root n p e e') h'')
 
 tables-by : (o : Option Stream) (b : Bool) → is_some o ≡ b
     → first_fault ((is_some o, NoCliHeader) ∷ []) ≡ cond b None (Some NoCliHeader)
@@ -142,7 +142,7 @@ past-streams : (at : ℕ) (root : List ℕ) (n p : ℕ) → n ≡ stream_count r
 past-streams at root n p e e' h h' h'' =
     past-headers at root n p e e' h h'
     ∙ (passes (stream_conditions at root (streams_of root)) (has_tables (streams_of root))
-        (subst (λ r. first_fault (stream_conditions at root (whole_streams r)) ≡ None) (streams-are root n p e e') h'')
+    (subst (λ r. first_fault (stream_conditions at root (whole_streams r)) ≡ None) (streams-are root n p e e') h'')
     ∙ sym (ap (λ r. first_fault (has_tables (whole_streams r))) (streams-are root n p e e')))
 
 pub has_them : (at : ℕ) (root : List ℕ) (n p : ℕ) (name bytes : List ℕ) → name ≡ codes "#~" → n ≡ stream_count root
@@ -155,9 +155,9 @@ has_them at root n p name bytes is e e' h h' h'' found =
     let tables : Option Stream = stream_named (codes "#~") (whole_streams (streams_at root n p)) in
     past-streams at root n p e e' h h' h''
     ∙ tables-by tables true
-        (some-found root bytes tables
-        (subst (λ m. Some bytes ≡ option_map (bytes_of root) (stream_named m (whole_streams (streams_at root n p)))) is
-        found))
+    (some-found root bytes tables
+    (subst (λ m. Some bytes ≡ option_map (bytes_of root) (stream_named m (whole_streams (streams_at root n p)))) is
+    found))
 
 pub lacks_them : (at : ℕ) (root : List ℕ) (n p : ℕ) (name : List ℕ) → name ≡ codes "#~" → n ≡ stream_count root
     → p ≡ streams_place root → first_fault (root_conditions at root) ≡ None
@@ -169,6 +169,6 @@ lacks_them at root n p name is e e' h h' h'' found =
     let tables : Option Stream = stream_named (codes "#~") (whole_streams (streams_at root n p)) in
     past-streams at root n p e e' h h' h''
     ∙ tables-by tables false
-        (none-found root tables
-        (subst (λ m. None ≡ option_map (bytes_of root) (stream_named m (whole_streams (streams_at root n p)))) is
-        found))
+    (none-found root tables
+    (subst (λ m. None ≡ option_map (bytes_of root) (stream_named m (whole_streams (streams_at root n p)))) is
+    found))

@@ -9,8 +9,12 @@ use Rattle.pe_image.specs.declared.section.Section.{Section}
 -- the header of a section: VirtualAddress at 12, SizeOfRawData at 16 and PointerToRawData at 20
 abbrev pub section_at : List ℕ → ℕ → Section
 section_at file at =
-    record { address = number_at file 4 (at + 12); size = number_at file 4 (at + 16); pointer = number_at file 4
-        (at + 20) }
+    record {
+      address = number_at file 4 (at + 12);
+      size = number_at file 4 (at + 16);
+      pointer = number_at file 4
+          (at + 20);
+    }
 
 -- so many headers of 40 bytes each, from a place on
 abbrev pub sections_at : List ℕ → ℕ → ℕ → List Section

@@ -9,8 +9,7 @@ use crate::bytes::{half_at, part, word_at};
 use crate::cli::{Located, Sections, locate};
 use crate::fault::PeFault;
 use crate::headers::check_headers;
-use crate::section;
-use crate::stream;
+use crate::{section, stream};
 use std::marker::Model;
 
 /// An assembly's image: the streams of its metadata, its entry token, and the bytes at its addresses.
@@ -40,14 +39,14 @@ impl<'a> Model for Image<'a> {
     ghost Value = { Parts };
 
     ghost view = { λ image. record {
-        tables = image.tables.now;
-        strings = image.strings.now;
-        user = image.user.now;
-        guid = image.guid.now;
-        blob = image.blob.now;
-        entry = image.entry;
-        file = image.file.now;
-        sections = sections_at image.file.now image.section_count image.section_place;
+      tables = image.tables.now;
+      strings = image.strings.now;
+      user = image.user.now;
+      guid = image.guid.now;
+      blob = image.blob.now;
+      entry = image.entry;
+      file = image.file.now;
+      sections = sections_at image.file.now image.section_count image.section_place;
     } };
 
     ghost invariant = { λ image. IsWhole image.file.now image.section_count image.section_place
@@ -131,7 +130,12 @@ impl<'a> Image<'a> {
     pub fn at(&self, rva: u32) -> Option<&[u8]>
         ensures { option_map (λ bytes. bytes.now) result ≡ bytes_from self.now.file self.now.sections rva }
     {
-        let (place, size) = section::place_of(self.file, self.section_count, self.section_place, rva)?;
+        let (place, size) = section::place_of(
+            self.file,
+            self.section_count,
+            self.section_place,
+            rva,
+        )?;
         Some(part(self.file, place, size))
     }
 }

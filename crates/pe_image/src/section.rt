@@ -83,7 +83,10 @@ pub(crate) fn place_of(file: &[u8], count: u16, place: usize, rva: u32) -> Optio
         let section = section_at(file, at);
         if holds(section, rva) {
             let behind = (rva - section.address) as usize;
-            return Some((section.pointer as usize + behind, section.size as usize - behind));
+            return Some((
+                section.pointer as usize + behind,
+                section.size as usize - behind,
+            ));
         }
     }
     None

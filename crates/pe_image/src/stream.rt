@@ -184,7 +184,12 @@ fn is_named(root: &[u8], place: usize, size: usize, name: &[u8]) -> bool
 }
 
 /// The bytes of the first of so many streams that has the name, if one has it.
-pub(crate) fn find_stream<'a>(root: &'a [u8], count: u16, place: usize, name: &[u8]) -> Option<&'a [u8]>
+pub(crate) fn find_stream<'a>(
+    root: &'a [u8],
+    count: u16,
+    place: usize,
+    name: &[u8],
+) -> Option<&'a [u8]>
     requires place { place ≤ length root.now }
     requires few { length root.now < 2 ^ 32 }
     requires whole { AreWhole root.now count place }

@@ -3,8 +3,7 @@ use std::alloc::{AllocError, Global};
 
 /// What mono's `mcs` makes of `class P { static int Main() { return 42; } }`, without the sections for resources and
 /// relocations and the zeros behind the first.
-static IMAGE: &[u8] =
-    b"\
+static IMAGE: &[u8] = b"\
     MZ\x90\0\x03\0\0\0\x04\0\0\0\xFF\xFF\0\0\xB8\0\0\0\0\0\0\0@\0\0\0\0\0\0\0\0\0\0\0\0\0\0\0\0\0\0\0\0\0\0\0\0\
     \0\0\0\0\0\0\0\0\0\0\0\x80\0\0\0\x0E\x1F\xBA\x0E\0\xB4\x09\xCD!\xB8\x01L\xCD!This program cannot be run in D\
     OS mode.\x0D\x0D\x0A$\0\0\0\0\0\0\0PE\0\0L\x01\x01\0\0\0\0\0\0\0\0\0\0\0\0\0\xE0\0\x02\x01\x0B\x01\x08\0\0\
@@ -63,7 +62,12 @@ fn opens_an_image(rt: HostRuntime) {
         ];
         assert_eq!(rt; sizes, [196, 116, 8, 16, 52]);
         assert_eq!(rt; image.entry, 0x0600_0002);
-        assert_eq!(rt; image.at(0x2058).map(|body| body.starts_with(b"\x0E\x1F\x2A\x2A")), Some(true));
+        assert_eq!(rt;
+            image
+                .at(0x2058)
+                .map(|body| body.starts_with(b"\x0E\x1F\x2A\x2A")),
+            Some(true)
+        );
         assert_eq!(rt; image.at(0x22A3).map(|bytes| bytes.len()), Some(1));
         assert_eq!(rt; image.at(0x22A4), None);
         assert_eq!(rt; image.at(0x1FFF), None);

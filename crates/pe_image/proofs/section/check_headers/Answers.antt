@@ -12,15 +12,15 @@ loop-index-preserved c =
     let is : c.fits.result ≡ true = search rules in
     let fit : fits file at 40 ≡ true = sym c.fits.ensures ∙ is in
     let left : c.args.count - c.loop-index.index ≡ suc (c.args.count - (c.loop-index.index + 1)) = omega
-        (arith, c.loop-index-test.true) in
+    (arith, c.loop-index-test.true) in
     let next : c.args.place + 40 * (c.loop-index.index + 1) ≡ at + 40 = omega arith in
     c.loop-index.invariant
-        ∙ (headers_on file (c.args.count - c.loop-index.index) (c.args.count - (c.loop-index.index + 1)) at
-        (c.args.place + 40 * (c.loop-index.index + 1)) left next
+    ∙ (headers_on file (c.args.count - c.loop-index.index) (c.args.count - (c.loop-index.index + 1)) at
+    (c.args.place + 40 * (c.loop-index.index + 1)) left next
     ∙ ap (λ b. cond b
-        (first_fault
-        (headers_fit file (c.args.count - (c.loop-index.index + 1)) (c.args.place + 40 * (c.loop-index.index + 1))))
-        (Some (Cut at))) fit)
+    (first_fault
+    (headers_fit file (c.args.count - (c.loop-index.index + 1)) (c.args.place + 40 * (c.loop-index.index + 1))))
+    (Some (Cut at))) fit)
 
 pub returns-clause-whole : goal.returns-clause-whole
 returns-clause-whole c =

@@ -13,19 +13,19 @@ returns-then-holds-clause-value c =
     let s : Section = section_at file at in
     let is : c.holds.result ≡ true = search rules in
     let held : holds rva s ≡ true = subst (λ s. holds rva s ≡ true) c.section_at-section.ensures
-        (sym c.holds.ensures ∙ is) in
+    (sym c.holds.ensures ∙ is) in
     let left : c.args.count - c.loop-index.index ≡ suc (c.args.count - (c.loop-index.index + 1)) = omega
-        (arith, c.loop-index-test.true) in
+    (arith, c.loop-index-test.true) in
     let next : c.args.place + 40 * (c.loop-index.index + 1) ≡ at + 40 = omega arith in
     subst (λ s. Some (place_in rva s) ≡ place_of (sections_at file c.args.count c.args.place) rva)
-        (sym c.section_at-section.ensures)
+    (sym c.section_at-section.ensures)
     (sym (c.loop-index.invariant
-        ∙ (place_on file rva (c.args.count - c.loop-index.index) (c.args.count - (c.loop-index.index + 1)) at
-        (c.args.place + 40 * (c.loop-index.index + 1)) left next
+    ∙ (place_on file rva (c.args.count - c.loop-index.index) (c.args.count - (c.loop-index.index + 1)) at
+    (c.args.place + 40 * (c.loop-index.index + 1)) left next
     ∙ ap (λ b. cond b (Some (place_in rva s))
-        (place_of
-        (sections_at file (c.args.count - (c.loop-index.index + 1)) (c.args.place + 40 * (c.loop-index.index + 1)))
-        rva)) held)))
+    (place_of
+    (sections_at file (c.args.count - (c.loop-index.index + 1)) (c.args.place + 40 * (c.loop-index.index + 1)))
+    rva)) held)))
 
 pub returns-then-holds-clause-within : goal.returns-then-holds-clause-within
 returns-then-holds-clause-within c =
@@ -35,9 +35,9 @@ returns-then-holds-clause-within c =
     let s : Section = c.section_at-section.result in
     let is : c.holds.result ≡ true = search rules in
     let below : index < length (sections_at file c.args.count c.args.place) = omega
-        (arith, sections_length file c.args.count c.args.place, c.loop-index-test.true) in
+    (arith, sections_length file c.args.count c.args.place, c.loop-index-test.true) in
     let there = section_is file c.args.count c.args.place index s c.loop-index-test.true
-        ∙ sym c.section_at-section.ensures in
+    ∙ sym c.section_at-section.ensures in
     within_section (length file) rva s (sym c.holds.ensures ∙ is)
     (subst (λ s. s.pointer + s.size ≤ length file) there (c.requires.parts index s below))
 
@@ -49,14 +49,14 @@ loop-index-preserved c =
     let s : Section = section_at file at in
     let is : c.holds.result ≡ false = search rules in
     let held : holds rva s ≡ false = subst (λ s. holds rva s ≡ false) c.section_at-section.ensures
-        (sym c.holds.ensures ∙ is) in
+    (sym c.holds.ensures ∙ is) in
     let left : c.args.count - c.loop-index.index ≡ suc (c.args.count - (c.loop-index.index + 1)) = omega
-        (arith, c.loop-index-test.true) in
+    (arith, c.loop-index-test.true) in
     let next : c.args.place + 40 * (c.loop-index.index + 1) ≡ at + 40 = omega arith in
     c.loop-index.invariant
-        ∙ (place_on file rva (c.args.count - c.loop-index.index) (c.args.count - (c.loop-index.index + 1)) at
-        (c.args.place + 40 * (c.loop-index.index + 1)) left next
+    ∙ (place_on file rva (c.args.count - c.loop-index.index) (c.args.count - (c.loop-index.index + 1)) at
+    (c.args.place + 40 * (c.loop-index.index + 1)) left next
     ∙ ap (λ b. cond b (Some (place_in rva s))
-        (place_of
-        (sections_at file (c.args.count - (c.loop-index.index + 1)) (c.args.place + 40 * (c.loop-index.index + 1)))
-        rva)) held)
+    (place_of
+    (sections_at file (c.args.count - (c.loop-index.index + 1)) (c.args.place + 40 * (c.loop-index.index + 1)))
+    rva)) held)

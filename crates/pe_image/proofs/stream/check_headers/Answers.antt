@@ -7,7 +7,7 @@ pub loop-left-preserved : goal.loop-left-preserved
 loop-left-preserved c =
     let root : List ℕ = c.args.root.now in
     let found : header root c.loop-left.place ≡ Some (c.in-Some.size, c.in-Some.field-0-1) = sym c.header.ensures.value
-        ∙ c.in-Some.is in
+    ∙ c.in-Some.is in
     let left : c.loop-left.left ≡ suc (c.loop-left.left - 1) = omega (arith, c.loop-left-test.true) in
     record {
       inside = c.in-Some.ensures.whole;

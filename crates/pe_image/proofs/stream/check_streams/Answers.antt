@@ -17,17 +17,17 @@ returns-then-not-fits-clause-answers c =
     let at-is : c.word_at-begin.result ≡ s.at = c.word_at-begin.ensures in
     let size-is : c.word_at.result ≡ s.size = c.word_at.ensures in
     let cut : fits root s.at s.size ≡ false = ap (fits root s.at) (sym size-is)
-        ∙ (ap (λ at. fits root at c.word_at.result) (sym at-is) ∙ (sym c.fits.ensures ∙ is)) in
+    ∙ (ap (λ at. fits root at c.word_at.result) (sym at-is) ∙ (sym c.fits.ensures ∙ is)) in
     subst (λ at. first_fault
-        (stream_conditions c.args.at root (whole_streams (streams_at root c.args.count c.args.place))) ≡ Some
-        (Cut (c.args.at + at))) (sym at-is)
+    (stream_conditions c.args.at root (whole_streams (streams_at root c.args.count c.args.place))) ≡ Some
+    (Cut (c.args.at + at))) (sym at-is)
     (c.loop-left.invariant.same
-        ∙ (conditions_on c.args.at root c.loop-left.left (c.loop-left.left - 1) place size c.in-Some.field-0-1 left
-        found c.loop-left.invariant.whole
+    ∙ (conditions_on c.args.at root c.loop-left.left (c.loop-left.left - 1) place size c.in-Some.field-0-1 left
+    found c.loop-left.invariant.whole
     ∙ ap (λ b. cond b
-        (first_fault
-        (stream_conditions c.args.at root (whole_streams (streams_at root (c.loop-left.left - 1) (place + size)))))
-        (Some (Cut (c.args.at + s.at)))) cut))
+    (first_fault
+    (stream_conditions c.args.at root (whole_streams (streams_at root (c.loop-left.left - 1) (place + size)))))
+    (Some (Cut (c.args.at + s.at)))) cut))
 
 pub loop-left-preserved : goal.loop-left-preserved
 loop-left-preserved c =
@@ -41,7 +41,7 @@ loop-left-preserved c =
     let at-is : c.word_at-begin.result ≡ s.at = c.word_at-begin.ensures in
     let size-is : c.word_at.result ≡ s.size = c.word_at.ensures in
     let fit : fits root s.at s.size ≡ true = ap (fits root s.at) (sym size-is)
-        ∙ (ap (λ at. fits root at c.word_at.result) (sym at-is) ∙ (sym c.fits.ensures ∙ is)) in
+    ∙ (ap (λ at. fits root at c.word_at.result) (sym at-is) ∙ (sym c.fits.ensures ∙ is)) in
     record {
       inside = c.in-Some.ensures.whole;
       whole = whole_on root c.loop-left.left (c.loop-left.left - 1) place size c.in-Some.field-0-1 left found
@@ -50,10 +50,10 @@ loop-left-preserved c =
           ∙ (conditions_on c.args.at root c.loop-left.left (c.loop-left.left - 1) place size c.in-Some.field-0-1 left
           found c.loop-left.invariant.whole
           ∙ ap (λ b. cond b
-              (first_fault
-              (stream_conditions c.args.at root
-              (whole_streams (streams_at root (c.loop-left.left - 1) (place + size))))) (Some (Cut (c.args.at + s.at))))
-              fit);
+          (first_fault
+          (stream_conditions c.args.at root
+          (whole_streams (streams_at root (c.loop-left.left - 1) (place + size))))) (Some (Cut (c.args.at + s.at))))
+          fit);
     }
 
 pub returns-clause-within : goal.returns-clause-within
@@ -62,5 +62,5 @@ returns-clause-within c =
     let none : c.loop-left.left ≡ 0 = omega (arith, c.loop-left-test.false) in
     streams_within c.args.at root (whole_streams (streams_at root c.args.count c.args.place))
     (c.loop-left.invariant.same
-        ∙ ap (λ n. first_fault (stream_conditions c.args.at root (whole_streams (streams_at root n c.loop-left.place))))
-        none)
+    ∙ ap (λ n. first_fault (stream_conditions c.args.at root (whole_streams (streams_at root n c.loop-left.place))))
+    none)
