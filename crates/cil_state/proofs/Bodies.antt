@@ -5,6 +5,7 @@ use Rattle.std.specs.Int.{int_wrap}
 use Rattle.num_core.specs.Run.{Ended, Running, Stopped, Streams, one_more}
 use Rattle.il_code.specs.Instructions.{opcode_row}
 use Rattle.il_code.specs.Listing.{listed}
+use Rattle.il_code.specs.Opcodes.{opcodes}
 use Rattle.il_code.specs.declared.body.Body.{Body}
 use Rattle.il_code.specs.declared.body.Instr.{Instr}
 use Rattle.il_code.specs.declared.body.Operand.TheVariants.{Nothing, Number, Target}
@@ -29,7 +30,7 @@ constant_code =
     ∷ record { at = 2; next = 3; op = Ret; operand = Nothing } ∷ []
 
 constant_reads : listed (0x1F ∷ 42 ∷ 0x2A ∷ []) ≡ Ok constant_code
-unfolding opcode_row
+unfolding opcode_row opcodes
 constant_reads = refl
 
 pub constant : (body : Body) (input : List ℕ) → listed (0x1F ∷ 42 ∷ 0x2A ∷ []) ≡ Ok body.code →
@@ -47,7 +48,7 @@ difference_code =
     ∷ record { at = 3; next = 4; op = Ret; operand = Nothing } ∷ []
 
 difference_reads : listed (0x1D ∷ 0x1B ∷ 0x59 ∷ 0x2A ∷ []) ≡ Ok difference_code
-unfolding opcode_row
+unfolding opcode_row opcodes
 difference_reads = refl
 
 pub difference : (body : Body) (input : List ℕ) → listed (0x1D ∷ 0x1B ∷ 0x59 ∷ 0x2A ∷ []) ≡ Ok body.code →
@@ -62,7 +63,7 @@ abbrev round_code : List Instr
 round_code = record { at = 0; next = 2; op = BrS; operand = Target 0 } ∷ []
 
 round_reads : listed (0x2B ∷ 0xFE ∷ []) ≡ Ok round_code
-unfolding opcode_row
+unfolding opcode_row opcodes
 round_reads = refl
 
 round_step : (body : Body) (streams : Streams) → listed (0x2B ∷ 0xFE ∷ []) ≡ Ok body.code →
@@ -84,7 +85,7 @@ lacking_code =
     ∷ record { at = 1; next = 2; op = Ret; operand = Nothing } ∷ []
 
 lacking_reads : listed (0x58 ∷ 0x2A ∷ []) ≡ Ok lacking_code
-unfolding opcode_row
+unfolding opcode_row opcodes
 lacking_reads = refl
 
 pub lacking : (body : Body) (input : List ℕ) (n : ℕ) → listed (0x58 ∷ 0x2A ∷ []) ≡ Ok body.code →
