@@ -1,7 +1,4 @@
-pub mod Words
-pub mod StepCount
 pub mod Printing
 pub mod Hex
 pub mod Counted
-pub mod Answers
-pub mod Completeness
+pub mod NumberOf

@@ -1,83 +1,72 @@
-ghost use Rattle.std.specs.Prelude.{◌≡◌, ◌+◌, ◌<◌, ◌≤◌, false, length, take, drop, IfOk, OnOk, OnErr, decimal as decimal_digits};
+ghost use Rattle.std.specs.Prelude.{◌≡◌, ◌+◌, ◌<◌, ◌≤◌, ◌++◌, false, codes, length, take, drop, map, IfOk, OnOk, OnErr, decimal as decimal_digits};
 ghost use Rattle.std.specs.Fmt.{digit_glyph};
-ghost use Rattle.ilc.specs.Words.{word_at};
 ghost use Rattle.std.specs.List.{flat_map};
 ghost use Rattle.ilc_io.specs.Count.{HasRisen};
-ghost use Rattle.ilc.specs.Line.{line_of, count_line, hexadecimal, cause_name as name_of_cause, body_method as body_method_name};
+ghost use Rattle.ilc.specs.Line.{line, line_of, count_line, hexadecimal, field_text, cause_name as name_of_cause};
 ghost use Rattle.ilc.specs.Printed.{Adds, AddsFront};
+ghost use Rattle.ilc.specs.declared.outcome.Outcome.TheVariants.{Refused};
 
 use crate::outcome::Outcome;
+use crate::refusal::{Field, Fields, Refusal};
 use ilc_io::{Failed, Sink};
 use itoa::Buffer;
-use num_core::Text;
 use rv_step::Cause;
 
 /// Prints the line of an outcome, if it has one. A refused write breaks it off.
-pub(crate) fn report<S: Sink>(sink: &mut S, words: &[Text], outcome: &Outcome) -> Result<(), Failed>
-    ensures printed { OnOk result (Adds (line_of words.now outcome.now) (S.written sink.old) (S.written sink.new)) }
-    ensures broken_off { OnErr result (AddsFront (line_of words.now outcome.now) (S.written sink.old) (S.written sink.new)) }
+pub(crate) fn report<S: Sink>(sink: &mut S, outcome: &Outcome) -> Result<(), Failed>
+    ensures printed { OnOk result (Adds (line_of outcome.now) (S.written sink.old) (S.written sink.new)) }
+    ensures broken_off { OnErr result (AddsFront (line_of outcome.now) (S.written sink.old) (S.written sink.new)) }
     ensures failed { OnErr result (HasRisen (S.faults sink.old) (S.faults sink.new)) }
     ensures faults_kept { S.faults sink.old ≤ S.faults sink.new }
 {
     let mut number = Buffer::new();
-    match *outcome {
+    match outcome {
         Outcome::Written | Outcome::Ended { .. } => write_pieces(sink, &[]),
-        Outcome::Memory => write_pieces(sink, &[b"ilc: memory\n"]),
-        Outcome::ReadFault => write_pieces(sink, &[b"ilc: read fault\n"]),
-        Outcome::WriteFault => write_pieces(sink, &[b"ilc: write fault\n"]),
+        Outcome::Memory => write_line(sink, &[b"memory"]),
+        Outcome::ReadFault => write_line(sink, &[b"read", b"fault"]),
+        Outcome::WriteFault => write_line(sink, &[b"write", b"fault"]),
         Outcome::Usage { index } => {
-            let index = decimal(&mut number, index as u64);
-            write_pieces(sink, &[b"ilc: usage ", index, b"\n"])
+            let index = decimal(&mut number, *index as u64);
+            write_line(sink, &[b"usage", index])
         }
+        Outcome::NoFile { name } => write_line(sink, &[b"nofile", name.bytes()]),
         Outcome::TooLong { size } => {
-            let size = decimal(&mut number, size);
-            write_pieces(sink, &[b"ilc: limit file ", size, b"\n"])
+            let size = decimal(&mut number, *size);
+            write_line(sink, &[b"limit", b"file", size])
         }
-        Outcome::Spent { steps } => {
-            let steps = decimal(&mut number, steps);
-            write_pieces(sink, &[b"ilc: 21 Spent ", steps, b"\n"])
+        Outcome::Refused(refusal) => report_refusal(sink, refusal),
+    }
+}
+
+/// Prints the line of a refusal.
+fn report_refusal<S: Sink>(sink: &mut S, refusal: &Refusal) -> Result<(), Failed>
+    ensures printed { OnOk result
+        (Adds (line_of (Refused refusal.now)) (S.written sink.old) (S.written sink.new)) }
+    ensures broken_off { OnErr result
+        (AddsFront (line_of (Refused refusal.now)) (S.written sink.old) (S.written sink.new)) }
+    ensures failed { OnErr result (HasRisen (S.faults sink.old) (S.faults sink.new)) }
+    ensures faults_kept { S.faults sink.old ≤ S.faults sink.new }
+{
+    let mut digits = Buffer::new();
+    let number = decimal(&mut digits, refusal.fault.row().number);
+    let name = refusal.fault.name();
+    let (mut a, mut b, mut c) = (Room::new(), Room::new(), Room::new());
+    match &refusal.fields {
+        Fields::None => write_line(sink, &[number, name]),
+        Fields::One(first) => {
+            let first = text_of(first, &mut a);
+            write_line(sink, &[number, name, first])
         }
-        Outcome::NoFile { word } => {
-            write_pieces(sink, &[b"ilc: nofile ", name(words, word), b"\n"])
+        Fields::Two(first, second) => {
+            let first = text_of(first, &mut a);
+            let second = text_of(second, &mut b);
+            write_line(sink, &[number, name, first, second])
         }
-        Outcome::BadHeader { word, offset } => {
-            let offset = decimal(&mut number, offset as u64);
-            let name = name(words, word);
-            write_pieces(sink, &[b"ilc: 9 BadHeader ", name, b" ", offset, b"\n"])
-        }
-        Outcome::BadElf { word, place } => {
-            let place = decimal(&mut number, place);
-            let name = name(words, word);
-            write_pieces(sink, &[b"ilc: 30 BadElf ", name, b" ", place, b"\n"])
-        }
-        Outcome::BadOpcode { offset } => {
-            let offset = decimal(&mut number, offset as u64);
-            let method = body_method();
-            write_pieces(sink, &[b"ilc: 10 BadOpcode ", method, b" ", offset, b"\n"])
-        }
-        Outcome::BadTarget { offset } => {
-            let offset = decimal(&mut number, offset as u64);
-            let method = body_method();
-            write_pieces(sink, &[b"ilc: 11 BadTarget ", method, b" ", offset, b"\n"])
-        }
-        Outcome::OpcodeOutside { offset } => {
-            let offset = decimal(&mut number, offset as u64);
-            let method = body_method();
-            write_pieces(
-                sink,
-                &[b"ilc: 24 OpcodeOutside ", method, b" ", offset, b"\n"],
-            )
-        }
-        Outcome::Unverified { offset } => {
-            let offset = decimal(&mut number, offset as u64);
-            let method = body_method();
-            write_pieces(sink, &[b"ilc: 20 Unverified ", method, b" ", offset, b"\n"])
-        }
-        Outcome::Trapped(trap) => {
-            let (digits, at) = hex(trap.pc);
-            let pc = &digits[at..];
-            let cause = cause_name(trap.cause);
-            write_pieces(sink, &[b"ilc: 29 Trap ", pc, b" ", cause, b"\n"])
+        Fields::Three(first, second, third) => {
+            let first = text_of(first, &mut a);
+            let second = text_of(second, &mut b);
+            let third = text_of(third, &mut c);
+            write_line(sink, &[number, name, first, second, third])
         }
     }
 }
@@ -101,13 +90,31 @@ pub(crate) fn decimal(buffer: &mut Buffer, number: u64) -> &[u8]
     buffer.format(number).as_bytes()
 }
 
-/// The word at an index, or no bytes past the last.
-fn name(words: &[Text], word: usize) -> &[u8]
-    ensures { result.now ≡ word_at words.now word }
+/// Room for the digits of a number.
+#[derive(Drop)]
+struct Room {
+    decimal: Buffer,
+    hexadecimal: [u8; 16],
+}
+
+impl Room {
+    fn new() -> Room {
+        Room {
+            decimal: Buffer::new(),
+            hexadecimal: [0; 16],
+        }
+    }
+}
+
+/// A field as it is printed.
+fn text_of<'a>(field: &'a Field, room: &'a mut Room) -> &'a [u8]
+    ensures { result.now ≡ field_text field.now }
 {
-    match words.get(word) {
-        Some(word) => word.bytes(),
-        None => &[],
+    match field {
+        Field::Text(text) => text.bytes(),
+        Field::Number(number) => decimal(&mut room.decimal, *number),
+        Field::Address(number) => hex(*number, &mut room.hexadecimal),
+        Field::Cause(cause) => cause_name(*cause),
     }
 }
 
@@ -123,15 +130,17 @@ fn cause_name(cause: Cause) -> &'static [u8]
     }
 }
 
-/// What refusals call the one method of a bare body.
-fn body_method() -> &'static [u8]
-    ensures { result.now ≡ body_method_name }
+/// The hexadecimal digits of a number.
+fn hex(number: u64, room: &mut [u8; 16]) -> &[u8]
+    ensures { result.now ≡ hexadecimal number }
 {
-    b"[body]Body::Main()->System.Int32"
+    let (digits, at) = hex_digits(number);
+    *room = digits;
+    &room[at..]
 }
 
 /// The hexadecimal digits of a number, and where in the buffer they begin.
-fn hex(number: u64) -> ([u8; 16], usize)
+fn hex_digits(number: u64) -> ([u8; 16], usize)
     ensures digits { drop result.1 result.0 ≡ hexadecimal number }
     ensures begin { result.1 < 16 }
     ensures size { length result.0 ≡ 16 }
@@ -160,10 +169,41 @@ fn hex_digit(digit: u64) -> u8
     }
 }
 
+/// Writes a line of the program, of these words. A refused write breaks it off.
+fn write_line<S: Sink>(sink: &mut S, words: &[&[u8]]) -> Result<(), Failed>
+    ensures printed { OnOk result
+        (Adds (line (map (λ word. word.now) words.now)) (S.written sink.old) (S.written sink.new)) }
+    ensures broken_off { OnErr result
+        (AddsFront (line (map (λ word. word.now) words.now)) (S.written sink.old) (S.written sink.new)) }
+    ensures failed { OnErr result (HasRisen (S.faults sink.old) (S.faults sink.new)) }
+    ensures faults_kept { S.faults sink.old ≤ S.faults sink.new }
+{
+    write_all(sink, b"ilc:")?;
+    write_words(sink, words)?;
+    write_all(sink, b"\n")
+}
+
+/// Writes words, each behind a space.
+fn write_words<S: Sink>(sink: &mut S, words: &[&[u8]]) -> Result<(), Failed>
+    ensures printed { OnOk result (Adds (flat_map (λ word. codes " " ++ word.now) words.now)
+        (S.written sink.old) (S.written sink.new)) }
+    ensures broken_off { OnErr result (AddsFront (flat_map (λ word. codes " " ++ word.now) words.now)
+        (S.written sink.old) (S.written sink.new)) }
+    ensures failed { OnErr result (HasRisen (S.faults sink.old) (S.faults sink.new)) }
+    ensures faults_kept { S.faults sink.old ≤ S.faults sink.new }
+{
+    for word in words {
+        write_pieces(sink, &[b" ", word])?;
+    }
+    Ok(())
+}
+
 /// Writes the pieces one after another. A refused write breaks them off.
 fn write_pieces<S: Sink>(sink: &mut S, pieces: &[&[u8]]) -> Result<(), Failed>
-    ensures written { OnOk result (Adds (flat_map (λ piece. piece.now) pieces.now) (S.written sink.old) (S.written sink.new)) }
-    ensures broken_off { OnErr result (AddsFront (flat_map (λ piece. piece.now) pieces.now) (S.written sink.old) (S.written sink.new)) }
+    ensures written { OnOk result
+        (Adds (flat_map (λ piece. piece.now) pieces.now) (S.written sink.old) (S.written sink.new)) }
+    ensures broken_off { OnErr result
+        (AddsFront (flat_map (λ piece. piece.now) pieces.now) (S.written sink.old) (S.written sink.new)) }
     ensures failed { OnErr result (HasRisen (S.faults sink.old) (S.faults sink.new)) }
     ensures faults_kept { S.faults sink.old ≤ S.faults sink.new }
 {
@@ -191,7 +231,8 @@ fn write_all<S: Sink>(sink: &mut S, bytes: &[u8]) -> Result<(), Failed>
 fn write_from<S: Sink>(sink: &mut S, bytes: &[u8], at: usize) -> Result<usize, Failed>
     requires { at < length bytes.now }
     ensures some { IfOk result (λ count. (0 < count) × (at + count ≤ length bytes.now)) }
-    ensures added { IfOk result (λ count. Adds (take count (drop at bytes.now)) (S.written sink.old) (S.written sink.new)) }
+    ensures added { IfOk result (λ count.
+        Adds (take count (drop at bytes.now)) (S.written sink.old) (S.written sink.new)) }
     ensures refused { OnErr result (S.written sink.new ≡ S.written sink.old) }
     ensures failed { OnErr result (HasRisen (S.faults sink.old) (S.faults sink.new)) }
     ensures faults_kept { S.faults sink.old ≤ S.faults sink.new }
