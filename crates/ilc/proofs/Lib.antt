@@ -3,5 +3,6 @@ pub mod StepCount
 pub mod Printing
 pub mod Hex
 pub mod Counted
+pub mod Faults
 pub mod Answers
 pub mod Completeness
