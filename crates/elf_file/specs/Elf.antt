@@ -79,7 +79,8 @@ with_header file place earlier =
 -- there is a fault.
 abbrev pub with_headers : List ℕ → ℕ → ℕ → List Segment → Result (List Segment) ℕ
 with_headers file zero place earlier = Ok earlier
-with_headers file (suc count) place earlier = and_then (with_headers file count (place + 56)) (with_header file place earlier)
+with_headers file (suc count) place earlier =
+    and_then (with_headers file count (place + 56)) (with_header file place earlier)
 
 -- the machine at the entry, with all registers 0
 abbrev pub machine_at : ℕ → List Segment → MachineState
@@ -91,7 +92,8 @@ machine_at entry segments = record { pc = entry; registers = replicate 32 0; seg
 abbrev pub loaded : List ℕ → Result MachineState ℕ
 loaded file =
     if has_elf_header file
-    then and_then (λ segments. Ok (machine_at (number_at file 8 24) segments)) (with_headers file (number_at file 2 56) (number_at file 8 32) [])
+    then and_then (λ segments. Ok (machine_at (number_at file 8 24) segments))
+    (with_headers file (number_at file 2 56) (number_at file 8 32) [])
     else Err 0
 
 -- A call's result is what reading gives, unless memory ran out.
@@ -154,11 +156,23 @@ file_of layout =
     headers_of layout ++ layout.text ++ replicate (up_to_page (text_size layout) - text_size layout) 0 ++ layout.rest
 
 abbrev pub text_segment : ElfLayout → Segment
-text_segment layout = record { at = base; bytes = headers_of layout ++ layout.text; read = true; write = false; execute = true }
+text_segment layout = record {
+  at = base;
+  bytes = headers_of layout ++ layout.text;
+  read = true;
+  write = false;
+  execute = true;
+}
 
 abbrev pub rest_segment : ElfLayout → Segment
 rest_segment layout =
-    record { at = base + up_to_page (text_size layout); bytes = layout.rest ++ replicate layout.zeros 0; read = true; write = true; execute = false }
+    record {
+      at = base + up_to_page (text_size layout);
+      bytes = layout.rest ++ replicate layout.zeros 0;
+      read = true;
+      write = true;
+      execute = false;
+    }
 
 -- the machine that the file loads
 abbrev pub machine_of : ElfLayout → MachineState

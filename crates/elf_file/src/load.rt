@@ -86,7 +86,8 @@ fn overlaps(address: u64, size: u64, segment: &Segment) -> bool
 
 /// Whether the part of the file and its memory have the sizes and addresses that they may have.
 fn is_within(header: ProgramHeader, file_size: u64) -> bool
-    ensures { result ≡ (nat_le (header.offset + header.file_size) file_size && nat_le header.file_size header.memory_size
+    ensures { result ≡ (nat_le (header.offset + header.file_size) file_size && nat_le header.file_size
+        header.memory_size
         && nat_le header.memory_size 536870912 && nat_le (header.address + header.memory_size) (2 ^ 64)) }
 {
     header.offset <= file_size

@@ -39,13 +39,14 @@ fn put_xword(file: &mut Bytes, number: u64) -> Result<(), Memory>
     file.extend_from_slice(&bytes)
 }
 
+/// Adds so many zeros, all at once.
 pub(crate) fn put_zeros(bytes: &mut Bytes, count: u64) -> Result<(), Memory>
     ensures { OnOk result (bytes.new ≡ bytes.old ++ replicate count 0) }
 {
-    for _ in 0..count {
-        bytes.push(0).map_err(|_| Memory)?;
-    }
-    Ok(())
+    let Some(len) = bytes.len().checked_add(count as usize) else {
+        return Err(Memory);
+    };
+    bytes.resize(len, 0)
 }
 
 fn put_elf_header(file: &mut Bytes, entry: u64) -> Result<(), Memory>

@@ -139,13 +139,14 @@ pub record IsLoaded (elf : List ℕ) (machine : MachineState) (before now : Stor
   pub read : IsRead elf elf_limit bytes before now
   pub loads : loaded bytes ≡ Ok machine
 
--- after so many steps within a limit the program has ended, and not before; no count of faults has fallen
+-- after so many steps within a limit the program has ended, and not before; no fault was counted
 pub record EndsWithin (machine : MachineState) (limit steps status : ℕ) (before now : StreamsSeen) : Type 0 where
   pub within : steps ≤ limit
-  pub ends : EndsAfter machine steps status before.outside now.outside
-  pub input_faults : before.input_faults ≤ now.input_faults
-  pub output_faults : before.output_faults ≤ now.output_faults
-  pub error_faults : before.error_faults ≤ now.error_faults
+  pub new : MachineState
+  pub ends : EndsAfter machine steps status new before.outside now.outside
+  pub input_faults : now.input_faults ≡ before.input_faults
+  pub output_faults : now.output_faults ≡ before.output_faults
+  pub error_faults : now.error_faults ≡ before.error_faults
 
 -- the line of the number of steps was printed, where it is to be
 abbrev pub IsCounted : Bool → ℕ → StreamsSeen → StreamsSeen → Type 0

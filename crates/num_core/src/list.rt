@@ -1,4 +1,4 @@
-ghost use Rattle.std.specs.Prelude.{◌≡◌, [], ◌∷◌, ◌++◌, ◌↔◌, length, IsTrue, IfOk, OnOk, OnErr, IfErr, slice_get, take, drop, ◌+◌, ◌≤◌};
+ghost use Rattle.std.specs.Prelude.{◌≡◌, [], ◌∷◌, ◌++◌, ◌↔◌, length, IsTrue, IfOk, OnOk, OnErr, IfErr, slice_get, take, drop, replicate, ◌+◌, ◌-◌, ◌≤◌};
 ghost use Rattle.std.specs.Option.{option_copied};
 
 use crate::memory::Memory;
@@ -101,6 +101,15 @@ impl<T: Copy> List<T> {
         ensures err { OnErr result (self.new ≡ self.old) }
     {
         self.items.extend_from_slice(items)?;
+        Ok(())
+    }
+
+    /// Keeps the first `len` items, and adds copies of an item up to that length. Want of memory changes nothing.
+    pub fn resize(&mut self, len: usize, item: T) -> Result<(), Memory>
+        ensures ok { OnOk result (self.new ≡ take len self.old ++ replicate (len - length self.old) item) }
+        ensures err { OnErr result (self.new ≡ self.old) }
+    {
+        self.items.resize(len, item)?;
         Ok(())
     }
 

@@ -3,3 +3,6 @@ pub mod Steps
 pub mod Effects
 pub mod Exchanges
 pub mod Requests
+pub mod Addresses
+pub mod AddressLaws
+pub mod KeptSegments

@@ -6,7 +6,6 @@ use Rattle.byteorder.specs.Endian.{little_number, little_bytes}
 use Rattle.num_core.specs.Bits.{low_bits}
 use Rattle.num_core.specs.Run.{Run, Running, Ended, Stopped, Streams, after}
 use Rattle.rv_isa.specs.declared.ins.Ins.{Ins}
-use Rattle.rv_isa.specs.declared.ins.Ins.TheVariants.{Lui, Auipc, Jal, Jalr, Beq, Bne, Blt, Bge, Bltu, Bgeu, Lb, Lh, Lw, Ld, Lbu, Lhu, Lwu, Sb, Sh, Sw, Sd, Addi, Slti, Sltiu, Xori, Ori, Andi, Slli, Srli, Srai, Addiw, Slliw, Srliw, Sraiw, Add, Sll, Slt, Sltu, Xor, Srl, Or, And, Sub, Sra, Mul, Mulh, Mulhsu, Mulhu, Div, Divu, Rem, Remu, Addw, Sllw, Srlw, Subw, Sraw, Mulw, Divw, Divuw, Remw, Remuw, Ecall}
 use Rattle.rv_isa.specs.Parts.{parts_of}
 use Rattle.rv_isa.specs.Rows.{instruction}
 use Rattle.rv_step.specs.declared.calls.Request.{Request}
@@ -99,7 +98,8 @@ abbrev pub unsigned_word_quotient : ℕ → ℕ → ℕ
 unsigned_word_quotient n d = if word_value d == 0 then all_ones else low_word (pos (word_value n / word_value d))
 
 abbrev pub unsigned_word_remainder : ℕ → ℕ → ℕ
-unsigned_word_remainder n d = if word_value d == 0 then low_word (pos n) else low_word (pos (word_value n % word_value d))
+unsigned_word_remainder n d =
+    if word_value d == 0 then low_word (pos n) else low_word (pos (word_value n % word_value d))
 
 -- ---- registers
 
@@ -135,7 +135,11 @@ without_bit_0 n = n - n % 2
 -- goes on elsewhere, and gives a register the address of the next instruction
 abbrev pub jumps : MachineState → ℕ → ℕ → Streams → Run MachineState Trap
 jumps m rd target streams =
-    Running (record { pc = target; registers = with_register m.registers rd (next_pc m); segments = m.segments }) streams
+    Running (record {
+      pc = target;
+      registers = with_register m.registers rd (next_pc m);
+      segments = m.segments;
+    }) streams
 
 -- goes on at a distance if the branch is taken
 abbrev pub branches : MachineState → Bool → ℤ → Streams → Run MachineState Trap
@@ -149,7 +153,8 @@ gives_loaded m rd (Some value) streams = gives m rd value streams
 
 abbrev pub loads : MachineState → ℕ → ℕ → ℕ → (ℕ → ℕ) → Streams → Run MachineState Trap
 loads m rd count at value =
-    gives_loaded m rd (option_map (λ bytes. value (little_number count bytes)) (bytes_at (λ s. s.read) at count m.segments))
+    gives_loaded m rd
+    (option_map (λ bytes. value (little_number count bytes)) (bytes_at (λ s. s.read) at count m.segments))
 
 -- writes the lowest bytes of a number, the lowest first
 abbrev pub goes_on_with : MachineState → Option (List Segment) → Streams → Run MachineState Trap
@@ -224,69 +229,73 @@ environment_call m = answers (request (register m 17) (register m 10)) m
 
 -- what each instruction does
 abbrev pub effect : Ins → MachineState → Streams → Run MachineState Trap
-effect (Lui rd imm) m = gives m rd (low_word (pos (imm * 2 ^ 12)))
-effect (Auipc rd imm) m = gives m rd (low_bits 64 (pos m.pc +ℤ cast_signed w32 (imm * 2 ^ 12)))
-effect (Jal rd imm) m = jumps m rd (low_bits 64 (pos m.pc +ℤ imm))
-effect (Jalr rd rs1 imm) m = jumps m rd (without_bit_0 (address m rs1 imm))
-effect (Beq rs1 rs2 imm) m = branches m (register m rs1 == register m rs2) imm
-effect (Bne rs1 rs2 imm) m = branches m (not (register m rs1 == register m rs2)) imm
-effect (Blt rs1 rs2 imm) m = branches m (int_lt (signed_value (register m rs1)) (signed_value (register m rs2))) imm
-effect (Bge rs1 rs2 imm) m = branches m (not (int_lt (signed_value (register m rs1)) (signed_value (register m rs2)))) imm
-effect (Bltu rs1 rs2 imm) m = branches m (nat_lt (register m rs1) (register m rs2)) imm
-effect (Bgeu rs1 rs2 imm) m = branches m (not (nat_lt (register m rs1) (register m rs2))) imm
-effect (Lb rd rs1 imm) m = loads m rd 1 (address m rs1 imm) (λ n. low_bits 64 (cast_signed w8 n))
-effect (Lh rd rs1 imm) m = loads m rd 2 (address m rs1 imm) (λ n. low_bits 64 (cast_signed w16 n))
-effect (Lw rd rs1 imm) m = loads m rd 4 (address m rs1 imm) (λ n. low_bits 64 (cast_signed w32 n))
-effect (Ld rd rs1 imm) m = loads m rd 8 (address m rs1 imm) (λ n. n)
-effect (Lbu rd rs1 imm) m = loads m rd 1 (address m rs1 imm) (λ n. n)
-effect (Lhu rd rs1 imm) m = loads m rd 2 (address m rs1 imm) (λ n. n)
-effect (Lwu rd rs1 imm) m = loads m rd 4 (address m rs1 imm) (λ n. n)
-effect (Sb rs1 rs2 imm) m = stores m 1 (address m rs1 imm) (register m rs2)
-effect (Sh rs1 rs2 imm) m = stores m 2 (address m rs1 imm) (register m rs2)
-effect (Sw rs1 rs2 imm) m = stores m 4 (address m rs1 imm) (register m rs2)
-effect (Sd rs1 rs2 imm) m = stores m 8 (address m rs1 imm) (register m rs2)
-effect (Addi rd rs1 imm) m = gives m rd (low_bits 64 (pos (register m rs1) +ℤ imm))
-effect (Slti rd rs1 imm) m = gives m rd (one_if (int_lt (signed_value (register m rs1)) imm))
-effect (Sltiu rd rs1 imm) m = gives m rd (one_if (nat_lt (register m rs1) (low_bits 64 imm)))
-effect (Xori rd rs1 imm) m = gives m rd (bit_xor (register m rs1) (low_bits 64 imm))
-effect (Ori rd rs1 imm) m = gives m rd (bit_or (register m rs1) (low_bits 64 imm))
-effect (Andi rd rs1 imm) m = gives m rd (bit_and (register m rs1) (low_bits 64 imm))
-effect (Slli rd rs1 shamt) m = gives m rd (low_bits 64 (pos (register m rs1 * 2 ^ shamt)))
-effect (Srli rd rs1 shamt) m = gives m rd (register m rs1 / 2 ^ shamt)
-effect (Srai rd rs1 shamt) m = gives m rd (low_bits 64 (int_shr (signed_value (register m rs1)) shamt))
-effect (Addiw rd rs1 imm) m = gives m rd (low_word (pos (register m rs1) +ℤ imm))
-effect (Slliw rd rs1 shamt) m = gives m rd (low_word (pos (register m rs1 * 2 ^ shamt)))
-effect (Srliw rd rs1 shamt) m = gives m rd (low_word (pos (word_value (register m rs1) / 2 ^ shamt)))
-effect (Sraiw rd rs1 shamt) m = gives m rd (low_word (int_shr (signed_word_value (register m rs1)) shamt))
-effect (Add rd rs1 rs2) m = gives m rd (low_bits 64 (pos (register m rs1) +ℤ pos (register m rs2)))
-effect (Sll rd rs1 rs2) m = gives m rd (low_bits 64 (pos (register m rs1 * 2 ^ (register m rs2 % 64))))
-effect (Slt rd rs1 rs2) m = gives m rd (one_if (int_lt (signed_value (register m rs1)) (signed_value (register m rs2))))
-effect (Sltu rd rs1 rs2) m = gives m rd (one_if (nat_lt (register m rs1) (register m rs2)))
-effect (Xor rd rs1 rs2) m = gives m rd (bit_xor (register m rs1) (register m rs2))
-effect (Srl rd rs1 rs2) m = gives m rd (register m rs1 / 2 ^ (register m rs2 % 64))
-effect (Or rd rs1 rs2) m = gives m rd (bit_or (register m rs1) (register m rs2))
-effect (And rd rs1 rs2) m = gives m rd (bit_and (register m rs1) (register m rs2))
-effect (Sub rd rs1 rs2) m = gives m rd (low_bits 64 (pos (register m rs1) -ℤ pos (register m rs2)))
-effect (Sra rd rs1 rs2) m = gives m rd (low_bits 64 (int_shr (signed_value (register m rs1)) (register m rs2 % 64)))
-effect (Mul rd rs1 rs2) m = gives m rd (low_bits 64 (pos (register m rs1) *ℤ pos (register m rs2)))
-effect (Mulh rd rs1 rs2) m = gives m rd (upper_bits (signed_value (register m rs1) *ℤ signed_value (register m rs2)))
-effect (Mulhsu rd rs1 rs2) m = gives m rd (upper_bits (signed_value (register m rs1) *ℤ pos (register m rs2)))
-effect (Mulhu rd rs1 rs2) m = gives m rd (upper_bits (pos (register m rs1) *ℤ pos (register m rs2)))
-effect (Div rd rs1 rs2) m = gives m rd (quotient (register m rs1) (register m rs2))
-effect (Divu rd rs1 rs2) m = gives m rd (unsigned_quotient (register m rs1) (register m rs2))
-effect (Rem rd rs1 rs2) m = gives m rd (remainder (register m rs1) (register m rs2))
-effect (Remu rd rs1 rs2) m = gives m rd (unsigned_remainder (register m rs1) (register m rs2))
-effect (Addw rd rs1 rs2) m = gives m rd (low_word (pos (register m rs1) +ℤ pos (register m rs2)))
-effect (Sllw rd rs1 rs2) m = gives m rd (low_word (pos (register m rs1 * 2 ^ (register m rs2 % 32))))
-effect (Srlw rd rs1 rs2) m = gives m rd (low_word (pos (word_value (register m rs1) / 2 ^ (register m rs2 % 32))))
-effect (Subw rd rs1 rs2) m = gives m rd (low_word (pos (register m rs1) -ℤ pos (register m rs2)))
-effect (Sraw rd rs1 rs2) m = gives m rd (low_word (int_shr (signed_word_value (register m rs1)) (register m rs2 % 32)))
-effect (Mulw rd rs1 rs2) m = gives m rd (low_word (pos (register m rs1) *ℤ pos (register m rs2)))
-effect (Divw rd rs1 rs2) m = gives m rd (word_quotient (register m rs1) (register m rs2))
-effect (Divuw rd rs1 rs2) m = gives m rd (unsigned_word_quotient (register m rs1) (register m rs2))
-effect (Remw rd rs1 rs2) m = gives m rd (word_remainder (register m rs1) (register m rs2))
-effect (Remuw rd rs1 rs2) m = gives m rd (unsigned_word_remainder (register m rs1) (register m rs2))
-effect Ecall m = environment_call m
+effect (Ins.Lui rd imm) m = gives m rd (low_word (pos (imm * 2 ^ 12)))
+effect (Ins.Auipc rd imm) m = gives m rd (low_bits 64 (pos m.pc +ℤ cast_signed w32 (imm * 2 ^ 12)))
+effect (Ins.Jal rd imm) m = jumps m rd (low_bits 64 (pos m.pc +ℤ imm))
+effect (Ins.Jalr rd rs1 imm) m = jumps m rd (without_bit_0 (address m rs1 imm))
+effect (Ins.Beq rs1 rs2 imm) m = branches m (register m rs1 == register m rs2) imm
+effect (Ins.Bne rs1 rs2 imm) m = branches m (not (register m rs1 == register m rs2)) imm
+effect (Ins.Blt rs1 rs2 imm) m = branches m (int_lt (signed_value (register m rs1)) (signed_value (register m rs2))) imm
+effect (Ins.Bge rs1 rs2 imm) m = branches m
+    (not (int_lt (signed_value (register m rs1)) (signed_value (register m rs2)))) imm
+effect (Ins.Bltu rs1 rs2 imm) m = branches m (nat_lt (register m rs1) (register m rs2)) imm
+effect (Ins.Bgeu rs1 rs2 imm) m = branches m (not (nat_lt (register m rs1) (register m rs2))) imm
+effect (Ins.Lb rd rs1 imm) m = loads m rd 1 (address m rs1 imm) (λ n. low_bits 64 (cast_signed w8 n))
+effect (Ins.Lh rd rs1 imm) m = loads m rd 2 (address m rs1 imm) (λ n. low_bits 64 (cast_signed w16 n))
+effect (Ins.Lw rd rs1 imm) m = loads m rd 4 (address m rs1 imm) (λ n. low_bits 64 (cast_signed w32 n))
+effect (Ins.Ld rd rs1 imm) m = loads m rd 8 (address m rs1 imm) (λ n. n)
+effect (Ins.Lbu rd rs1 imm) m = loads m rd 1 (address m rs1 imm) (λ n. n)
+effect (Ins.Lhu rd rs1 imm) m = loads m rd 2 (address m rs1 imm) (λ n. n)
+effect (Ins.Lwu rd rs1 imm) m = loads m rd 4 (address m rs1 imm) (λ n. n)
+effect (Ins.Sb rs1 rs2 imm) m = stores m 1 (address m rs1 imm) (register m rs2)
+effect (Ins.Sh rs1 rs2 imm) m = stores m 2 (address m rs1 imm) (register m rs2)
+effect (Ins.Sw rs1 rs2 imm) m = stores m 4 (address m rs1 imm) (register m rs2)
+effect (Ins.Sd rs1 rs2 imm) m = stores m 8 (address m rs1 imm) (register m rs2)
+effect (Ins.Addi rd rs1 imm) m = gives m rd (low_bits 64 (pos (register m rs1) +ℤ imm))
+effect (Ins.Slti rd rs1 imm) m = gives m rd (one_if (int_lt (signed_value (register m rs1)) imm))
+effect (Ins.Sltiu rd rs1 imm) m = gives m rd (one_if (nat_lt (register m rs1) (low_bits 64 imm)))
+effect (Ins.Xori rd rs1 imm) m = gives m rd (bit_xor (register m rs1) (low_bits 64 imm))
+effect (Ins.Ori rd rs1 imm) m = gives m rd (bit_or (register m rs1) (low_bits 64 imm))
+effect (Ins.Andi rd rs1 imm) m = gives m rd (bit_and (register m rs1) (low_bits 64 imm))
+effect (Ins.Slli rd rs1 shamt) m = gives m rd (low_bits 64 (pos (register m rs1 * 2 ^ shamt)))
+effect (Ins.Srli rd rs1 shamt) m = gives m rd (register m rs1 / 2 ^ shamt)
+effect (Ins.Srai rd rs1 shamt) m = gives m rd (low_bits 64 (int_shr (signed_value (register m rs1)) shamt))
+effect (Ins.Addiw rd rs1 imm) m = gives m rd (low_word (pos (register m rs1) +ℤ imm))
+effect (Ins.Slliw rd rs1 shamt) m = gives m rd (low_word (pos (register m rs1 * 2 ^ shamt)))
+effect (Ins.Srliw rd rs1 shamt) m = gives m rd (low_word (pos (word_value (register m rs1) / 2 ^ shamt)))
+effect (Ins.Sraiw rd rs1 shamt) m = gives m rd (low_word (int_shr (signed_word_value (register m rs1)) shamt))
+effect (Ins.Add rd rs1 rs2) m = gives m rd (low_bits 64 (pos (register m rs1) +ℤ pos (register m rs2)))
+effect (Ins.Sll rd rs1 rs2) m = gives m rd (low_bits 64 (pos (register m rs1 * 2 ^ (register m rs2 % 64))))
+effect (Ins.Slt rd rs1 rs2) m = gives m rd
+    (one_if (int_lt (signed_value (register m rs1)) (signed_value (register m rs2))))
+effect (Ins.Sltu rd rs1 rs2) m = gives m rd (one_if (nat_lt (register m rs1) (register m rs2)))
+effect (Ins.Xor rd rs1 rs2) m = gives m rd (bit_xor (register m rs1) (register m rs2))
+effect (Ins.Srl rd rs1 rs2) m = gives m rd (register m rs1 / 2 ^ (register m rs2 % 64))
+effect (Ins.Or rd rs1 rs2) m = gives m rd (bit_or (register m rs1) (register m rs2))
+effect (Ins.And rd rs1 rs2) m = gives m rd (bit_and (register m rs1) (register m rs2))
+effect (Ins.Sub rd rs1 rs2) m = gives m rd (low_bits 64 (pos (register m rs1) -ℤ pos (register m rs2)))
+effect (Ins.Sra rd rs1 rs2) m = gives m rd (low_bits 64 (int_shr (signed_value (register m rs1)) (register m rs2 % 64)))
+effect (Ins.Mul rd rs1 rs2) m = gives m rd (low_bits 64 (pos (register m rs1) *ℤ pos (register m rs2)))
+effect (Ins.Mulh rd rs1 rs2) m = gives m rd
+    (upper_bits (signed_value (register m rs1) *ℤ signed_value (register m rs2)))
+effect (Ins.Mulhsu rd rs1 rs2) m = gives m rd (upper_bits (signed_value (register m rs1) *ℤ pos (register m rs2)))
+effect (Ins.Mulhu rd rs1 rs2) m = gives m rd (upper_bits (pos (register m rs1) *ℤ pos (register m rs2)))
+effect (Ins.Div rd rs1 rs2) m = gives m rd (quotient (register m rs1) (register m rs2))
+effect (Ins.Divu rd rs1 rs2) m = gives m rd (unsigned_quotient (register m rs1) (register m rs2))
+effect (Ins.Rem rd rs1 rs2) m = gives m rd (remainder (register m rs1) (register m rs2))
+effect (Ins.Remu rd rs1 rs2) m = gives m rd (unsigned_remainder (register m rs1) (register m rs2))
+effect (Ins.Addw rd rs1 rs2) m = gives m rd (low_word (pos (register m rs1) +ℤ pos (register m rs2)))
+effect (Ins.Sllw rd rs1 rs2) m = gives m rd (low_word (pos (register m rs1 * 2 ^ (register m rs2 % 32))))
+effect (Ins.Srlw rd rs1 rs2) m = gives m rd (low_word (pos (word_value (register m rs1) / 2 ^ (register m rs2 % 32))))
+effect (Ins.Subw rd rs1 rs2) m = gives m rd (low_word (pos (register m rs1) -ℤ pos (register m rs2)))
+effect (Ins.Sraw rd rs1 rs2) m = gives m rd
+    (low_word (int_shr (signed_word_value (register m rs1)) (register m rs2 % 32)))
+effect (Ins.Mulw rd rs1 rs2) m = gives m rd (low_word (pos (register m rs1) *ℤ pos (register m rs2)))
+effect (Ins.Divw rd rs1 rs2) m = gives m rd (word_quotient (register m rs1) (register m rs2))
+effect (Ins.Divuw rd rs1 rs2) m = gives m rd (unsigned_word_quotient (register m rs1) (register m rs2))
+effect (Ins.Remw rd rs1 rs2) m = gives m rd (word_remainder (register m rs1) (register m rs2))
+effect (Ins.Remuw rd rs1 rs2) m = gives m rd (unsigned_word_remainder (register m rs1) (register m rs2))
+effect Ins.Ecall m = environment_call m
 
 -- the word at the pc, which is a multiple of 4, in an executable segment
 abbrev pub fetched : MachineState → Option ℕ

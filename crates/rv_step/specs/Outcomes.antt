@@ -1,5 +1,6 @@
 -- How runs of a machine come out: what its steps did, and what the outside has of it.
-use Rattle.std.specs.Prelude.{◌≡◌, ◌≢◌, ◌⊎◌, ℕ, ◌+◌, ◌<◌, List, [], ◌++◌, length, take, drop, Option, Some}
+use Rattle.std.specs.Prelude.{◌≡◌, ◌≢◌, ◌⊎◌, ℕ, ◌+◌, ◌<◌, ◌≤◌, List, [], ◌++◌, length, take, drop, Option, Some}
+use Rattle.ilc_io.specs.Count.{next_count}
 use Rattle.num_core.specs.Run.{Run, Running, Ended, Stopped, Streams, Outside, Passes}
 use Rattle.rv_isa.specs.declared.ins.Ins.TheVariants.{Ecall}
 use Rattle.rv_isa.specs.Parts.{parts_of}
@@ -13,11 +14,6 @@ use Rattle.rv_step.specs.declared.trap.Trap.{Trap}
 abbrev pub outside : Option (List ℕ) → Option (List ℕ) → Option (List ℕ) → Outside
 outside rest output error = record { rest = rest; output = output; error = error }
 
--- the run goes on
-abbrev pub IsRunning : Run MachineState Trap → Type 0
-IsRunning (Running machine streams) = Unit {0}
-IsRunning _ = ⊥
-
 -- after so many steps the run goes on, from the machine `new`
 pub record GoesOn (old : MachineState) (steps : ℕ) (new : MachineState) (before now : Outside) : Type 0 where
   pub given : List ℕ
@@ -25,16 +21,20 @@ pub record GoesOn (old : MachineState) (steps : ℕ) (new : MachineState) (befor
   pub running : machine_run old given steps ≡ Running new streams
   pub passes : Passes given streams before now
 
--- after so many steps the run has ended, and not before
-pub record EndsAfter (old : MachineState) (steps status : ℕ) (before now : Outside) : Type 0 where
+-- After so many steps the run has ended, and not before: a step earlier it went on, from the machine `new`.
+pub record EndsAfter (old : MachineState) (steps status : ℕ) (new : MachineState) (before now : Outside)
+    : Type 0 where
   pub given : List ℕ
   pub streams : Streams
+  pub done : ℕ
+  pub last : steps ≡ done + 1
+  pub running : machine_run old given done ≡ Running new streams
   pub ended : machine_run old given steps ≡ Ended status streams
-  pub first : (count : ℕ) → count < steps → IsRunning (machine_run old given count)
   pub passes : Passes given streams before now
 
 -- one of the steps can't be done, and `new` is the machine before it
-pub record TrapsWithin (old : MachineState) (steps : ℕ) (trap : Trap) (new : MachineState) (before now : Outside) : Type 0 where
+pub record TrapsWithin (old : MachineState) (steps : ℕ) (trap : Trap) (new : MachineState)
+    (before now : Outside) : Type 0 where
   pub given : List ℕ
   pub streams : Streams
   pub done : ℕ
@@ -54,9 +54,15 @@ pub record Asks (m : MachineState) (asked : Request) : Type 0 where
   pub calls : instruction (parts_of word) ≡ Some Ecall
   pub requests : Requests m asked
 
+-- The sink that was asked to write has counted one fault more, and the other has none.
+abbrev pub SinkCounts : (Request → Type 0) → ℕ → ℕ → ℕ → ℕ → Type 0
+SinkCounts asks output output' error error' =
+    (asks WriteOutput × (output' ≡ next_count output) × (error' ≡ error))
+    ⊎ (asks WriteError × (error' ≡ next_count error) × (output' ≡ output))
+
 -- One of the steps asked to read, and the source refused. All that the steps before it wrote has been written. Of
--- the input that they left that step took the first bytes at most, and `new` is the machine before it with the
--- memory that it leaves where there is no more than these to read.
+-- the input that they left that step took the first bytes at most, fewer than it asks for, and `new` is the machine
+-- before it with the memory that it leaves where there is no more than these to read.
 pub record ReadFailsWithin (old : MachineState) (steps : ℕ) (new : MachineState) (before now : Outside) : Type 0 where
   pub given : List ℕ
   pub streams : Streams
@@ -66,8 +72,11 @@ pub record ReadFailsWithin (old : MachineState) (steps : ℕ) (new : MachineStat
   pub running : machine_run old given done ≡ Running machine streams
   pub asks : Asks machine ReadInput
   pub took : ℕ
+  pub there : took ≤ length streams.input
+  pub missing : took < register machine 12
   pub next : MachineState
-  pub goes_on : machine_step machine (record streams { input = take took streams.input }) ≡ Running next (record streams { input = [] })
+  pub goes_on : machine_step machine (record streams { input = take took streams.input })
+      ≡ Running next (record streams { input = [] })
   pub same : new ≡ record machine { segments = next.segments }
   pub passes : Passes given (record streams { input = drop took streams.input }) before now
 

@@ -1,8 +1,8 @@
 //! Calls of the environment.
-ghost use Rattle.std.specs.Prelude.{◌≡◌, ◌⊎◌, ◌+◌, ◌≤◌, ℕ, List, length, Option, OnOk, OnErr, IfOk, IfSome, Bool, [], ◌≢◌, true};
-ghost use Rattle.ilc_io.specs.Count.{HasRisen};
+ghost use Rattle.std.specs.Prelude.{◌≡◌, ◌+◌, ◌≤◌, ℕ, List, length, Option, OnOk, OnErr, IfOk, IfSome, Bool, [], ◌≢◌, true};
+ghost use Rattle.ilc_io.specs.Count.{next_count};
 ghost use Rattle.rv_step.specs.Machine.{environment_call, register, request as is_request, writes, reads, to_output, to_error, next_pc, with_register};
-ghost use Rattle.rv_step.specs.Outcomes.{outside, Requests};
+ghost use Rattle.rv_step.specs.Outcomes.{outside, Requests, SinkCounts};
 ghost use Rattle.rv_step.specs.Steps.{StepAnswers, EndIsTrue, Wrote, WroteSome};
 
 use crate::fault::StepFault;
@@ -53,8 +53,8 @@ fn requested(number: u64, a0: u64) -> Request
 fn write_all<S: Sink>(sink: &mut S, bytes: &[u8]) -> Result<(), Failed>
     ensures all { OnOk result (Wrote bytes.now (S.written sink.old) (S.written sink.new)) }
     ensures some { OnErr result (WroteSome bytes.now (S.written sink.old) (S.written sink.new)) }
-    ensures failed { OnErr result (HasRisen (S.faults sink.old) (S.faults sink.new)) }
-    ensures faults_kept { S.faults sink.old ≤ S.faults sink.new }
+    ensures counted { OnErr result (S.faults sink.new ≡ next_count (S.faults sink.old)) }
+    ensures not_counted { OnOk result (S.faults sink.new ≡ S.faults sink.old) }
 {
     let mut done = 0;
     while done < bytes.len() {
@@ -77,12 +77,16 @@ impl Machine {
         at_end: &mut bool,
     ) -> Result<Option<u8>, StepFault>
         requires { EndIsTrue at_end.old (outside (I.rest input.old) (O.written out.old) (E.written err.old)) }
-        ensures answers { StepAnswers (environment_call self.old) result at_end.old at_end.new self.old self.new (outside (I.rest input.old) (O.written out.old) (E.written err.old)) (outside (I.rest input.new) (O.written out.new) (E.written err.new)) }
-        ensures read_fault { result ≡ Err StepFault.ReadFault → Requests self.old Request.ReadInput × HasRisen (I.faults input.old) (I.faults input.new) }
-        ensures write_fault { result ≡ Err StepFault.WriteFault → (Requests self.old Request.WriteOutput × HasRisen (O.faults out.old) (O.faults out.new)) ⊎ (Requests self.old Request.WriteError × HasRisen (E.faults err.old) (E.faults err.new)) }
-        ensures input_faults { I.faults input.old ≤ I.faults input.new }
-        ensures output_faults { O.faults out.old ≤ O.faults out.new }
-        ensures error_faults { E.faults err.old ≤ E.faults err.new }
+        ensures answers { StepAnswers (environment_call self.old) result at_end.old at_end.new self.old self.new
+            (outside (I.rest input.old) (O.written out.old) (E.written err.old))
+            (outside (I.rest input.new) (O.written out.new) (E.written err.new)) }
+        ensures read_fault { result ≡ Err StepFault.ReadFault →
+            Requests self.old Request.ReadInput × (I.faults input.new ≡ next_count (I.faults input.old)) }
+        ensures write_fault { result ≡ Err StepFault.WriteFault →
+            SinkCounts (Requests self.old) (O.faults out.old) (O.faults out.new) (E.faults err.old) (E.faults err.new) }
+        ensures input_faults { result ≢ Err StepFault.ReadFault → I.faults input.new ≡ I.faults input.old }
+        ensures output_faults { result ≢ Err StepFault.WriteFault → O.faults out.new ≡ O.faults out.old }
+        ensures error_faults { result ≢ Err StepFault.WriteFault → E.faults err.new ≡ E.faults err.old }
     {
         let a0 = self.get(Register::of(A0));
         match requested(self.get(Register::of(A7)), a0) {
@@ -96,7 +100,11 @@ impl Machine {
 
     /// Puts the answer of a call in a0, and goes on to the next instruction.
     fn answer(&mut self, number: u64)
-        ensures { self.new ≡ record { pc = next_pc self.old; registers = with_register self.old.registers 10 number; segments = self.old.segments } }
+        ensures { self.new ≡ record {
+          pc = next_pc self.old;
+          registers = with_register self.old.registers 10 number;
+          segments = self.old.segments;
+        } }
     {
         self.put(Register::of(A0), number);
         self.go_on();
@@ -104,11 +112,18 @@ impl Machine {
 
     /// Writes the a2 bytes from a1 on.
     fn write_call<S: Sink>(&mut self, sink: &mut S) -> Result<Option<u8>, StepFault>
-        ensures to_output { (ended : Bool) (rest error : Option (List ℕ)) → EndIsTrue ended (outside rest (S.written sink.old) error) → StepAnswers (writes self.old to_output) result ended ended self.old self.new (outside rest (S.written sink.old) error) (outside rest (S.written sink.new) error) }
-        ensures to_error { (ended : Bool) (rest output : Option (List ℕ)) → EndIsTrue ended (outside rest output (S.written sink.old)) → StepAnswers (writes self.old to_error) result ended ended self.old self.new (outside rest output (S.written sink.old)) (outside rest output (S.written sink.new)) }
+        ensures to_output { (ended : Bool) (rest error : Option (List ℕ)) → EndIsTrue ended
+            (outside rest (S.written sink.old) error) →
+            StepAnswers (writes self.old to_output) result ended ended self.old self.new
+            (outside rest (S.written sink.old) error) (outside rest (S.written sink.new) error) }
+        ensures to_error { (ended : Bool) (rest output : Option (List ℕ)) → EndIsTrue ended
+            (outside rest output (S.written sink.old)) →
+            StepAnswers (writes self.old to_error) result ended ended self.old self.new
+            (outside rest output (S.written sink.old)) (outside rest output (S.written sink.new)) }
         ensures not_read { result ≢ Err StepFault.ReadFault }
-        ensures failed { result ≡ Err StepFault.WriteFault → (register self.old 12 ≢ 0) × HasRisen (S.faults sink.old) (S.faults sink.new) }
-        ensures faults_kept { S.faults sink.old ≤ S.faults sink.new }
+        ensures counted { result ≡ Err StepFault.WriteFault → (register self.old 12 ≢ 0)
+            × (S.faults sink.new ≡ next_count (S.faults sink.old)) }
+        ensures not_counted { result ≢ Err StepFault.WriteFault → S.faults sink.new ≡ S.faults sink.old }
     {
         let count = self.get(Register::of(A2));
         if count == 0 {
@@ -134,10 +149,13 @@ impl Machine {
         at_end: &mut bool,
     ) -> Result<Option<u8>, StepFault>
         requires { at_end.old ≡ true → IfSome (I.rest input.old) (λ rest. rest ≡ []) }
-        ensures answers { (output error : Option (List ℕ)) → StepAnswers (reads self.old) result at_end.old at_end.new self.old self.new (outside (I.rest input.old) output error) (outside (I.rest input.new) output error) }
+        ensures answers { (output error : Option (List ℕ)) →
+            StepAnswers (reads self.old) result at_end.old at_end.new self.old self.new
+            (outside (I.rest input.old) output error) (outside (I.rest input.new) output error) }
         ensures not_written { result ≢ Err StepFault.WriteFault }
-        ensures failed { result ≡ Err StepFault.ReadFault → (register self.old 12 ≢ 0) × HasRisen (I.faults input.old) (I.faults input.new) }
-        ensures faults_kept { I.faults input.old ≤ I.faults input.new }
+        ensures counted { result ≡ Err StepFault.ReadFault → (register self.old 12 ≢ 0)
+            × (I.faults input.new ≡ next_count (I.faults input.old)) }
+        ensures not_counted { result ≢ Err StepFault.ReadFault → I.faults input.new ≡ I.faults input.old }
     {
         let wanted = self.get(Register::of(A2));
         if wanted == 0 {

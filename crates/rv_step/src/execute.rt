@@ -1,9 +1,9 @@
-ghost use Rattle.std.specs.Prelude.{◌≡◌, ◌≢◌, ◌⊎◌, ◌≤◌};
-ghost use Rattle.ilc_io.specs.Count.{HasRisen};
+ghost use Rattle.std.specs.Prelude.{◌≡◌, ◌≢◌};
+ghost use Rattle.ilc_io.specs.Count.{next_count};
 ghost use Rattle.rv_step.specs.Machine.{machine_step, effect};
-ghost use Rattle.rv_step.specs.Outcomes.{outside, Asks};
+ghost use Rattle.rv_step.specs.Outcomes.{outside, Asks, SinkCounts};
 ghost use Rattle.rv_step.specs.Steps.{Does, StepAnswers, EndIsTrue};
-ghost use Rattle.rv_step.specs.declared.calls.Request.TheVariants.{ReadInput, WriteOutput, WriteError};
+ghost use Rattle.rv_step.specs.declared.calls.Request.TheVariants.{ReadInput};
 
 use crate::fault::StepFault;
 use crate::machine::Machine;
@@ -23,12 +23,16 @@ impl Machine {
         at_end: &mut bool,
     ) -> Result<Option<u8>, StepFault>
         requires { EndIsTrue at_end.old (outside (I.rest input.old) (O.written out.old) (E.written err.old)) }
-        ensures answers { StepAnswers (machine_step self.old) result at_end.old at_end.new self.old self.new (outside (I.rest input.old) (O.written out.old) (E.written err.old)) (outside (I.rest input.new) (O.written out.new) (E.written err.new)) }
-        ensures read_fault { result ≡ Err StepFault.ReadFault → Asks self.old ReadInput × HasRisen (I.faults input.old) (I.faults input.new) }
-        ensures write_fault { result ≡ Err StepFault.WriteFault → (Asks self.old WriteOutput × HasRisen (O.faults out.old) (O.faults out.new)) ⊎ (Asks self.old WriteError × HasRisen (E.faults err.old) (E.faults err.new)) }
-        ensures input_faults { I.faults input.old ≤ I.faults input.new }
-        ensures output_faults { O.faults out.old ≤ O.faults out.new }
-        ensures error_faults { E.faults err.old ≤ E.faults err.new }
+        ensures answers { StepAnswers (machine_step self.old) result at_end.old at_end.new self.old self.new
+            (outside (I.rest input.old) (O.written out.old) (E.written err.old))
+            (outside (I.rest input.new) (O.written out.new) (E.written err.new)) }
+        ensures read_fault { result ≡ Err StepFault.ReadFault →
+            Asks self.old ReadInput × (I.faults input.new ≡ next_count (I.faults input.old)) }
+        ensures write_fault { result ≡ Err StepFault.WriteFault →
+            SinkCounts (Asks self.old) (O.faults out.old) (O.faults out.new) (E.faults err.old) (E.faults err.new) }
+        ensures input_faults { result ≢ Err StepFault.ReadFault → I.faults input.new ≡ I.faults input.old }
+        ensures output_faults { result ≢ Err StepFault.WriteFault → O.faults out.new ≡ O.faults out.old }
+        ensures error_faults { result ≢ Err StepFault.WriteFault → E.faults err.new ≡ E.faults err.old }
     {
         let Some(word) = self.fetch() else {
             return Err(StepFault::Trap(self.trap(Cause::Fetch)));

@@ -1,6 +1,6 @@
 //! Reading into memory.
-ghost use Rattle.std.specs.Prelude.{◌≡◌, ◌⊎◌, ◌+◌, ◌-◌, ◌≤◌, ℕ, true, [], length, IfOk, IfSome, IsTrue, OnErr, None};
-ghost use Rattle.ilc_io.specs.Count.{HasRisen};
+ghost use Rattle.std.specs.Prelude.{◌≡◌, ◌⊎◌, ◌+◌, ◌-◌, ◌<◌, ◌≤◌, ℕ, true, [], length, IfOk, IfSome, IsTrue, OnOk, OnErr, None};
+ghost use Rattle.ilc_io.specs.Count.{next_count};
 ghost use Rattle.rv_step.specs.Machine.{bytes_at, covers};
 ghost use Rattle.rv_step.specs.Segments.{grants};
 ghost use Rattle.rv_step.specs.Steps.{FilledBytes, FilledSegments};
@@ -23,12 +23,15 @@ fn fill_bytes<I: Source>(
     requires rising { from ≤ end }
     requires within { end ≤ length bytes.old }
     requires end_is_true { at_end.old ≡ true → IfSome (I.rest input.old) (λ rest. rest ≡ []) }
-    ensures filled { IfOk result (λ got. (got ≤ end - from) × FilledBytes got from bytes.old bytes.new at_end.old at_end.new (I.rest input.old) (I.rest input.new)) }
+    ensures filled { IfOk result (λ got. (got ≤ end - from)
+        × FilledBytes got from bytes.old bytes.new at_end.old at_end.new (I.rest input.old) (I.rest input.new)) }
     ensures whole { IfOk result (λ got. (got ≡ end - from) ⊎ (at_end.new ≡ true)) }
-    ensures broken_off { OnErr result ((got : ℕ) × (got ≤ end - from) × FilledBytes got from bytes.old bytes.new at_end.old at_end.new (I.rest input.old) (I.rest input.new)) }
+    ensures broken_off { OnErr result
+        ((got : ℕ) × (got < end - from) × FilledBytes got from bytes.old bytes.new at_end.old at_end.new
+        (I.rest input.old) (I.rest input.new)) }
     ensures asked { OnErr result (at_end.old ≡ true → ⊥) }
-    ensures failed { OnErr result (HasRisen (I.faults input.old) (I.faults input.new)) }
-    ensures faults_kept { I.faults input.old ≤ I.faults input.new }
+    ensures counted { OnErr result (I.faults input.new ≡ next_count (I.faults input.old)) }
+    ensures not_counted { OnOk result (I.faults input.new ≡ I.faults input.old) }
 {
     let mut piece = [0; PIECE];
     let mut at = from;
@@ -57,13 +60,18 @@ impl Segment {
     ) -> Result<u64, Failed>
         requires covered { IsTrue (covers address count self.old) }
         requires end_is_true { at_end.old ≡ true → IfSome (I.rest input.old) (λ rest. rest ≡ []) }
-        ensures filled { IfOk result (λ got. (got ≤ count) × FilledBytes got (address - self.old.at) self.old.bytes self.new.bytes at_end.old at_end.new (I.rest input.old) (I.rest input.new)) }
+        ensures filled { IfOk result (λ got. (got ≤ count)
+            × FilledBytes got (address - self.old.at) self.old.bytes self.new.bytes at_end.old at_end.new
+            (I.rest input.old) (I.rest input.new)) }
         ensures whole { IfOk result (λ got. (got ≡ count) ⊎ (at_end.new ≡ true)) }
-        ensures broken_off { OnErr result ((got : ℕ) × (got ≤ count) × FilledBytes got (address - self.old.at) self.old.bytes self.new.bytes at_end.old at_end.new (I.rest input.old) (I.rest input.new)) }
+        ensures broken_off { OnErr result
+            ((got : ℕ) × (got < count) × FilledBytes got
+            (address - self.old.at) self.old.bytes self.new.bytes at_end.old at_end.new (I.rest input.old)
+            (I.rest input.new)) }
         ensures asked { OnErr result (at_end.old ≡ true → ⊥) }
         ensures others { self.new ≡ record self.old { bytes = self.new.bytes } }
-        ensures failed { OnErr result (HasRisen (I.faults input.old) (I.faults input.new)) }
-        ensures faults_kept { I.faults input.old ≤ I.faults input.new }
+        ensures counted { OnErr result (I.faults input.new ≡ next_count (I.faults input.old)) }
+        ensures not_counted { OnOk result (I.faults input.new ≡ I.faults input.old) }
     {
         let from = (address - self.at) as usize;
         let room = self.bytes.len() - from;
@@ -86,14 +94,19 @@ pub(crate) fn fill<I: Source>(
     at_end: &mut bool,
 ) -> Result<Option<u64>, Failed>
     requires { at_end.old ≡ true → IfSome (I.rest input.old) (λ rest. rest ≡ []) }
-    ensures filled { IfOk result (λ found. IfSome found (λ got. (got ≤ count) × FilledSegments got address count segments.old segments.new at_end.old at_end.new (I.rest input.old) (I.rest input.new))) }
+    ensures filled { IfOk result (λ found. IfSome found
+        (λ got. (got ≤ count) × FilledSegments got address count segments.old segments.new at_end.old at_end.new
+        (I.rest input.old) (I.rest input.new))) }
     ensures whole { IfOk result (λ found. IfSome found (λ got. (got ≡ count) ⊎ (at_end.new ≡ true))) }
     ensures nowhere { result ≡ Ok None → bytes_at (grants Access.Write) address count segments.old ≡ None }
-    ensures same { result ≡ Ok None → (segments.new ≡ segments.old) × (at_end.new ≡ at_end.old) × (I.rest input.new ≡ I.rest input.old) }
-    ensures broken_off { OnErr result ((got : ℕ) × (got ≤ count) × FilledSegments got address count segments.old segments.new at_end.old at_end.new (I.rest input.old) (I.rest input.new)) }
+    ensures same { result ≡ Ok None → (segments.new ≡ segments.old) × (at_end.new ≡ at_end.old)
+        × (I.rest input.new ≡ I.rest input.old) }
+    ensures broken_off { OnErr result
+        ((got : ℕ) × (got < count) × FilledSegments got address count segments.old segments.new at_end.old at_end.new
+        (I.rest input.old) (I.rest input.new)) }
     ensures asked { OnErr result (at_end.old ≡ true → ⊥) }
-    ensures failed { OnErr result (HasRisen (I.faults input.old) (I.faults input.new)) }
-    ensures faults_kept { I.faults input.old ≤ I.faults input.new }
+    ensures counted { OnErr result (I.faults input.new ≡ next_count (I.faults input.old)) }
+    ensures not_counted { OnOk result (I.faults input.new ≡ I.faults input.old) }
 {
     match place_for(segments, Access::Write, address, count) {
         Some(place) => match segments[place].fill(address, count, input, at_end) {

@@ -5,6 +5,7 @@ mod calls;
 mod execute;
 mod fault;
 mod fill;
+mod laws;
 mod load;
 mod machine;
 mod run;
@@ -14,6 +15,7 @@ mod trap;
 mod value;
 
 pub use fault::{RunFault, StepFault};
+pub use laws::bytes_in_memory;
 pub use machine::Machine;
 pub use run::Ran;
 pub use segment::Segment;

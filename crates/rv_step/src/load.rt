@@ -13,7 +13,8 @@ impl Machine {
     /// Loads 8 bits with their sign extended.
     #[inline]
     pub(crate) fn load_byte(&mut self, register: Register, address: u64) -> Result<(), Cause>
-        ensures { Does (loads self.old register 1 address (λ n. low_bits 64 (cast_signed w8 n))) result self.old self.new }
+        ensures { Does (loads self.old register 1 address
+            (λ n. low_bits 64 (cast_signed w8 n))) result self.old self.new }
     {
         let Some(bytes) = self.read(address, 1) else {
             return Err(Cause::Load);
@@ -25,7 +26,8 @@ impl Machine {
     /// Loads 16 bits with their sign extended.
     #[inline]
     pub(crate) fn load_half(&mut self, register: Register, address: u64) -> Result<(), Cause>
-        ensures { Does (loads self.old register 2 address (λ n. low_bits 64 (cast_signed w16 n))) result self.old self.new }
+        ensures { Does (loads self.old register 2 address
+            (λ n. low_bits 64 (cast_signed w16 n))) result self.old self.new }
     {
         let Some(bytes) = self.read(address, 2) else {
             return Err(Cause::Load);
@@ -37,7 +39,8 @@ impl Machine {
     /// Loads 32 bits with their sign extended.
     #[inline]
     pub(crate) fn load_word(&mut self, register: Register, address: u64) -> Result<(), Cause>
-        ensures { Does (loads self.old register 4 address (λ n. low_bits 64 (cast_signed w32 n))) result self.old self.new }
+        ensures { Does (loads self.old register 4 address
+            (λ n. low_bits 64 (cast_signed w32 n))) result self.old self.new }
     {
         let Some(bytes) = self.read(address, 4) else {
             return Err(Cause::Load);

@@ -1,8 +1,8 @@
-ghost use Rattle.std.specs.Prelude.{◌≡◌, ◌<◌, ℕ, All, AllPairs, OnErr, ◌⊎◌, ◌≤◌, [], true, IfOk, IfSome, length, option_copied, replicate, not, Some, None};
+ghost use Rattle.std.specs.Prelude.{◌≡◌, ◌<◌, ℕ, All, AllPairs, OnOk, OnErr, ◌⊎◌, ◌≤◌, [], true, IfOk, IfSome, length, option_copied, replicate, not, Some, None};
 ghost use Rattle.std.specs.Bool.{OnTrue, OnFalse};
 ghost use Rattle.rv_step.specs.Machine.{MachineState, fetched, register as value_of, next_pc, with_register, gives, jumps, branches, bytes_at as are_bytes_at, with_bytes_at, address as address_of};
 ghost use Rattle.rv_step.specs.Steps.{Does, FilledSegments};
-ghost use Rattle.ilc_io.specs.Count.{HasRisen};
+ghost use Rattle.ilc_io.specs.Count.{next_count};
 ghost use Rattle.rv_step.specs.Segments.{AreDisjoint, DoesNotWrap};
 
 use crate::fill::fill;
@@ -41,7 +41,8 @@ impl Machine {
     pub fn new(_alloc: Global, segments: List<Segment>, pc: u64) -> Result<Machine, Memory>
         requires disjoint { AllPairs AreDisjoint segments }
         requires within { All DoesNotWrap segments }
-        ensures { IfOk result (λ machine. machine ≡ record { pc = pc; registers = replicate 32 0; segments = segments }) }
+        ensures { IfOk result (λ machine. machine
+            ≡ record { pc = pc; registers = replicate 32 0; segments = segments }) }
     {
         Ok(Machine {
             pc,
@@ -74,7 +75,8 @@ impl Machine {
     /// Writes bytes from an address on, if they lie in one segment that may be written.
     #[inline]
     pub(crate) fn write(&mut self, address: u64, bytes: &[u8]) -> bool
-        ensures written { OnTrue result (with_bytes_at (λ s. s.write) address bytes.now self.old.segments ≡ Some self.new.segments) }
+        ensures written { OnTrue result
+            (with_bytes_at (λ s. s.write) address bytes.now self.old.segments ≡ Some self.new.segments) }
         ensures refused { OnFalse result (with_bytes_at (λ s. s.write) address bytes.now self.old.segments ≡ None) }
         ensures same { OnFalse result (self.new ≡ self.old) }
         ensures pc { self.new.pc ≡ self.old.pc }
@@ -93,16 +95,23 @@ impl Machine {
         at_end: &mut bool,
     ) -> Result<Option<u64>, Failed>
         requires { at_end.old ≡ true → IfSome (I.rest input.old) (λ rest. rest ≡ []) }
-        ensures filled { IfOk result (λ found. IfSome found (λ got. (got ≤ count) × FilledSegments got address count self.old.segments self.new.segments at_end.old at_end.new (I.rest input.old) (I.rest input.new))) }
+        ensures filled { IfOk result (λ found. IfSome found
+            (λ got. (got ≤ count)
+            × FilledSegments got address count self.old.segments self.new.segments at_end.old at_end.new
+            (I.rest input.old) (I.rest input.new))) }
         ensures whole { IfOk result (λ found. IfSome found (λ got. (got ≡ count) ⊎ (at_end.new ≡ true))) }
         ensures nowhere { result ≡ Ok None → are_bytes_at (λ s. s.write) address count self.old.segments ≡ None }
-        ensures same { result ≡ Ok None → (self.new ≡ self.old) × (at_end.new ≡ at_end.old) × (I.rest input.new ≡ I.rest input.old) }
-        ensures broken_off { OnErr result ((got : ℕ) × (got ≤ count) × FilledSegments got address count self.old.segments self.new.segments at_end.old at_end.new (I.rest input.old) (I.rest input.new)) }
+        ensures same { result ≡ Ok None → (self.new ≡ self.old) × (at_end.new ≡ at_end.old)
+            × (I.rest input.new ≡ I.rest input.old) }
+        ensures broken_off { OnErr result
+            ((got : ℕ) × (got < count)
+            × FilledSegments got address count self.old.segments self.new.segments at_end.old at_end.new
+            (I.rest input.old) (I.rest input.new)) }
         ensures asked { OnErr result (at_end.old ≡ true → ⊥) }
         ensures pc { self.new.pc ≡ self.old.pc }
         ensures registers { self.new.registers ≡ self.old.registers }
-        ensures failed { OnErr result (HasRisen (I.faults input.old) (I.faults input.new)) }
-        ensures faults_kept { I.faults input.old ≤ I.faults input.new }
+        ensures counted { OnErr result (I.faults input.new ≡ next_count (I.faults input.old)) }
+        ensures not_counted { OnOk result (I.faults input.new ≡ I.faults input.old) }
     {
         fill(self.segments.as_mut_slice(), address, count, input, at_end)
     }

@@ -107,7 +107,8 @@ pub(crate) fn place_for(
 /// Writes bytes from an address on, if they lie in one segment that may be written.
 #[inline]
 pub(crate) fn write_bytes(segments: &mut [Segment], address: u64, bytes: &[u8]) -> bool
-    ensures written { OnTrue result (with_bytes_at (grants Access.Write) address bytes.now segments.old ≡ Some segments.new) }
+    ensures written { OnTrue result
+        (with_bytes_at (grants Access.Write) address bytes.now segments.old ≡ Some segments.new) }
     ensures refused { OnFalse result (with_bytes_at (grants Access.Write) address bytes.now segments.old ≡ None) }
     ensures same { OnFalse result (segments.new ≡ segments.old) }
 {

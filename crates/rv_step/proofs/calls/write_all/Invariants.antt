@@ -1,4 +1,4 @@
-use Rattle.std.proofs.Common.{◌-◌, ◌≤◌, length, take}
+use Rattle.std.proofs.Common.{◌-◌, ◌≤◌, ◌≡◌, length, take}
 use Rattle.rv_step.specs.Steps.{Wrote}
 use Rattle.rv_step.proofs.calls.write_all.Given as goal
 
@@ -8,7 +8,7 @@ invariant-loop-done g l =
     record {
       within : l.done ≤ length l.bytes;
       wrote : Wrote (take l.done l.bytes) (sink.written l.fn.sink) (sink.written l.sink);
-      faults : sink.faults l.fn.sink ≤ sink.faults l.sink;
+      faults : sink.faults l.sink ≡ sink.faults l.fn.sink;
     }
 
 abbrev pub decreases-loop-done : goal.decreases-loop-done

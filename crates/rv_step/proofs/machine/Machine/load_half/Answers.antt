@@ -6,4 +6,6 @@ use Rattle.rv_step.proofs.machine.Machine.load_half.Goals as goal
 
 pub returns : goal.returns
 returns c =
-    load_done c.args.self.now c.give.new.self c.args.register 2 c.args.address (c.extend_half-value.result) (λ n. low_bits 64 (cast_signed w16 n)) c.in-Some.bytes.now c.give.result c.in-Some.ensures.bytes (c.extend_half-value.ensures ∙ ap (λ n. low_bits 64 (cast_signed w16 n)) c.read_u16.ensures) c.give.ensures
+    load_done c.args.self.now c.give.new.self c.args.register 2 c.args.address (c.extend_half-value.result)
+    (λ n. low_bits 64 (cast_signed w16 n)) c.in-Some.bytes.now c.give.result c.in-Some.ensures.bytes
+    (c.extend_half-value.ensures ∙ ap (λ n. low_bits 64 (cast_signed w16 n)) c.read_u16.ensures) c.give.ensures

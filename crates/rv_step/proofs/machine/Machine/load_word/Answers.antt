@@ -6,4 +6,6 @@ use Rattle.rv_step.proofs.machine.Machine.load_word.Goals as goal
 
 pub returns : goal.returns
 returns c =
-    load_done c.args.self.now c.give.new.self c.args.register 4 c.args.address (c.extend_word-value.result) (λ n. low_bits 64 (cast_signed w32 n)) c.in-Some.bytes.now c.give.result c.in-Some.ensures.bytes (c.extend_word-value.ensures ∙ ap (λ n. low_bits 64 (cast_signed w32 n)) c.read_u32.ensures) c.give.ensures
+    load_done c.args.self.now c.give.new.self c.args.register 4 c.args.address (c.extend_word-value.result)
+    (λ n. low_bits 64 (cast_signed w32 n)) c.in-Some.bytes.now c.give.result c.in-Some.ensures.bytes
+    (c.extend_word-value.ensures ∙ ap (λ n. low_bits 64 (cast_signed w32 n)) c.read_u32.ensures) c.give.ensures
