@@ -1,8 +1,7 @@
 //! Extremes of every operation. The expected values were computed with the integers of Python.
-ghost use Rattle.std.specs.Prelude.{◌≡◌};
-ghost use Rattle.std.specs.Int.{w32, w64};
-ghost use Rattle.num_core.specs.Integers.{IsOfKind, width};
+ghost use Rattle.num_core.specs.Integers.{IsOfKind};
 
+use crate::Kind::{I4, I8, U4, U8};
 use crate::{
     Bounds, Bytes, DivFault, Fix, FixKind, Kind, List, Narrow, ShiftOp, Text, TextFault, add_ovf,
     conv, conv_ovf, div_rem, mul_ovf, shift, sub_ovf, wrap32, wrap64,
@@ -10,67 +9,29 @@ use crate::{
 use std::alloc::Global;
 use std::process::Abort;
 
-// The sum, the difference, the product, and the quotient with the remainder.
-type Results = (
-    Option<i64>,
-    Option<i64>,
-    Option<i64>,
-    Result<(i64, i64), DivFault>,
-);
+// Where there is no number. No row has it otherwise.
+const NO: i64 = 99;
 
-fn arithmetic(rt: &impl Abort, kind: Kind, a: i64, b: i64, want: Results)
-    requires a { IsOfKind kind a }
-    requires b { IsOfKind kind b }
-{
-    assert!(rt; add_ovf(kind, a, b) == want.0);
-    assert!(rt; sub_ovf(kind, a, b) == want.1);
-    assert!(rt; mul_ovf(kind, a, b) == want.2);
-    assert!(rt; div_rem(kind, a, b) == want.3);
-}
+// The ends of the numbers of 32 and of 64 bits, and some beside them.
+const MIN32: i64 = -2_147_483_648;
 
-fn arithmetic_32(rt: &impl Abort, kind: Kind, rows: &[(i32, i32, Results)])
-    requires { width kind ≡ w32 }
-{
-    for (a, b, want) in rows {
-        arithmetic(rt, kind, i64::from(*a), i64::from(*b), *want);
-    }
-}
+const MAX32: i64 = 2_147_483_647;
 
-fn arithmetic_64(rt: &impl Abort, kind: Kind, rows: &[(i64, i64, Results)])
-    requires { width kind ≡ w64 }
-{
-    for (a, b, want) in rows {
-        arithmetic(rt, kind, *a, *b, *want);
-    }
-}
+const BELOW: i64 = -2_147_483_649;
 
-// The value moved to the left, to the right, and to the right without its sign.
-fn shifts(rt: &impl Abort, kind: Kind, a: i64, amount: i64, want: (i64, i64, i64))
-    requires { IsOfKind kind a }
-{
-    assert!(rt; shift(ShiftOp::Left, kind, a, amount) == want.0);
-    assert!(rt; shift(ShiftOp::Right, kind, a, amount) == want.1);
-    assert!(rt; shift(ShiftOp::RightUnsigned, kind, a, amount) == want.2);
-}
+const BIT15: i64 = 32_768;
 
-fn shifts_32(rt: &impl Abort, kind: Kind, rows: &[(i32, i64, (i64, i64, i64))])
-    requires { width kind ≡ w32 }
-{
-    for (a, amount, want) in rows {
-        shifts(rt, kind, i64::from(*a), *amount, *want);
-    }
-}
+const HALF: i64 = 2_147_483_648;
 
-fn shifts_64(rt: &impl Abort, kind: Kind, rows: &[(i64, i64, (i64, i64, i64))])
-    requires { width kind ≡ w64 }
-{
-    for (a, amount, want) in rows {
-        shifts(rt, kind, *a, *amount, *want);
-    }
-}
+const CUT: i64 = 4_294_967_167;
 
-// What is left of the value at each type, and the same number at each type that has it.
-type Converted = ([i64; 8], [Option<i64>; 8]);
+const FULL: i64 = 4_294_967_295;
+
+const WORD: i64 = 4_294_967_296;
+
+const MIN64: i64 = i64::MIN;
+
+const MAX64: i64 = i64::MAX;
 
 const TYPES: [Narrow; 8] = [
     Narrow::I1,
@@ -83,824 +44,214 @@ const TYPES: [Narrow; 8] = [
     Narrow::U8,
 ];
 
-fn conversions(rt: &impl Abort, kind: Kind, a: i64, want: &Converted)
-    requires { IsOfKind kind a }
+// The kind, two numbers, their sum, difference and product, and the quotient with the remainder.
+static ARITHMETIC: [(Kind, i64, i64, [i64; 5]); 40] = [
+    (I4, MIN32, -1, [NO, -MAX32, NO, NO, -1]),
+    (I4, MIN32, 1, [-MAX32, NO, MIN32, MIN32, 0]),
+    (I4, MIN32, 0, [MIN32, MIN32, 0, NO, 0]),
+    (I4, MAX32, 1, [NO, MAX32 - 1, MAX32, MAX32, 0]),
+    (I4, MAX32, MAX32, [NO, 0, NO, 1, 0]),
+    (I4, -1, -1, [-2, 0, 1, 1, 0]),
+    (I4, 0, MIN32, [MIN32, NO, 0, 0, 0]),
+    (I4, -7, 2, [-5, -9, -14, -3, -1]),
+    (I4, 7, -2, [5, 9, -14, -3, 1]),
+    (I4, 65_536, 65_536, [131_072, 0, NO, 1, 0]),
+    (U4, MIN32, -1, [NO, NO, NO, 0, MIN32]),
+    (U4, MIN32, 1, [-MAX32, MAX32, MIN32, MIN32, 0]),
+    (U4, MIN32, 0, [MIN32, MIN32, 0, NO, 0]),
+    (U4, MAX32, 1, [MIN32, MAX32 - 1, MAX32, MAX32, 0]),
+    (U4, MAX32, MAX32, [-2, 0, NO, 1, 0]),
+    (U4, -1, -1, [NO, 0, NO, 1, 0]),
+    (U4, 0, MIN32, [MIN32, NO, 0, 0, 0]),
+    (U4, -7, 2, [-5, -9, NO, MAX32 - 3, 1]),
+    (U4, 7, -2, [NO, NO, NO, 0, 7]),
+    (U4, 65_536, 65_536, [131_072, 0, NO, 1, 0]),
+    (I8, MIN64, -1, [NO, -MAX64, NO, NO, -1]),
+    (I8, MIN64, 1, [-MAX64, NO, MIN64, MIN64, 0]),
+    (I8, MIN64, 0, [MIN64, MIN64, 0, NO, 0]),
+    (I8, MAX64, 1, [NO, MAX64 - 1, MAX64, MAX64, 0]),
+    (I8, MAX64, MAX64, [NO, 0, NO, 1, 0]),
+    (I8, -1, -1, [-2, 0, 1, 1, 0]),
+    (I8, 0, MIN64, [MIN64, NO, 0, 0, 0]),
+    (I8, -7, 2, [-5, -9, -14, -3, -1]),
+    (I8, 7, -2, [5, 9, -14, -3, 1]),
+    (I8, WORD, WORD, [2 * WORD, 0, NO, 1, 0]),
+    (U8, MIN64, -1, [NO, NO, NO, 0, MIN64]),
+    (U8, MIN64, 1, [-MAX64, MAX64, MIN64, MIN64, 0]),
+    (U8, MIN64, 0, [MIN64, MIN64, 0, NO, 0]),
+    (U8, MAX64, 1, [MIN64, MAX64 - 1, MAX64, MAX64, 0]),
+    (U8, MAX64, MAX64, [-2, 0, NO, 1, 0]),
+    (U8, -1, -1, [NO, 0, NO, 1, 0]),
+    (U8, 0, MIN64, [MIN64, NO, 0, 0, 0]),
+    (U8, -7, 2, [-5, -9, NO, MAX64 - 3, 1]),
+    (U8, 7, -2, [NO, NO, NO, 0, 7]),
+    (U8, WORD, WORD, [2 * WORD, 0, NO, 1, 0]),
+];
+
+// The kind, a number, the amount, and the number moved to the left, to the right, and to the right without its
+// sign. The same holds of the kind without sign.
+static SHIFTS: [(Kind, i64, i64, [i64; 3]); 20] = [
+    (I4, MIN32, 0, [MIN32, MIN32, MIN32]),
+    (I4, MIN32, 31, [0, -1, 1]),
+    (I4, MIN32, 32, [MIN32, MIN32, MIN32]),
+    (I4, MIN32, 63, [0, -1, 1]),
+    (I4, MIN32, 64, [MIN32, MIN32, MIN32]),
+    (I4, MAX32, 0, [MAX32, MAX32, MAX32]),
+    (I4, MAX32, 31, [MIN32, 0, 0]),
+    (I4, MAX32, 32, [MAX32, MAX32, MAX32]),
+    (I4, MAX32, 63, [MIN32, 0, 0]),
+    (I4, MAX32, 64, [MAX32, MAX32, MAX32]),
+    (I8, MIN64, 0, [MIN64, MIN64, MIN64]),
+    (I8, MIN64, 31, [0, -WORD, WORD]),
+    (I8, MIN64, 32, [0, MIN32, HALF]),
+    (I8, MIN64, 63, [0, -1, 1]),
+    (I8, MIN64, 64, [MIN64, MIN64, MIN64]),
+    (I8, MAX64, 0, [MAX64, MAX64, MAX64]),
+    (I8, MAX64, 31, [MIN32, FULL, FULL]),
+    (I8, MAX64, 32, [-WORD, MAX32, MAX32]),
+    (I8, MAX64, 63, [MIN64, 0, 0]),
+    (I8, MAX64, 64, [MAX64, MAX64, MAX64]),
+];
+
+// The kind, a number, and what is left of it at each type. The same holds of the kind without sign.
+static LOW_BITS: [(Kind, i64, [i64; 8]); 15] = [
+    (I4, -1, [-1, 255, -1, 65_535, -1, -1, -1, FULL]),
+    (I4, 127, [127, 127, 127, 127, 127, 127, 127, 127]),
+    (I4, 128, [-128, 128, 128, 128, 128, 128, 128, 128]),
+    (I4, -129, [127, 127, -129, 65_407, -129, -129, -129, CUT]),
+    (I4, 256, [0, 0, 256, 256, 256, 256, 256, 256]),
+    (I4, BIT15, [0, 0, -BIT15, BIT15, BIT15, BIT15, BIT15, BIT15]),
+    (I4, MIN32, [0, 0, 0, 0, MIN32, MIN32, MIN32, HALF]),
+    (I4, MAX32, [-1, 255, -1, 65_535, MAX32, MAX32, MAX32, MAX32]),
+    (I8, -1, [-1, 255, -1, 65_535, -1, -1, -1, -1]),
+    (I8, HALF, [0, 0, 0, 0, MIN32, MIN32, HALF, HALF]),
+    (I8, BELOW, [-1, 255, -1, 65_535, MAX32, MAX32, BELOW, BELOW]),
+    (I8, FULL, [-1, 255, -1, 65_535, -1, -1, FULL, FULL]),
+    (I8, WORD, [0, 0, 0, 0, 0, 0, WORD, WORD]),
+    (I8, MIN64, [0, 0, 0, 0, 0, 0, MIN64, MIN64]),
+    (I8, MAX64, [-1, 255, -1, 65_535, -1, -1, MAX64, MAX64]),
+];
+
+// The kind, a number, and the same number at each type that has it.
+static SAME_NUMBERS: [(Kind, i64, [i64; 8]); 30] = [
+    (I4, -1, [-1, NO, -1, NO, -1, NO, -1, NO]),
+    (I4, 127, [127, 127, 127, 127, 127, 127, 127, 127]),
+    (I4, 128, [NO, 128, 128, 128, 128, 128, 128, 128]),
+    (I4, -129, [NO, NO, -129, NO, -129, NO, -129, NO]),
+    (I4, 256, [NO, NO, 256, 256, 256, 256, 256, 256]),
+    (I4, BIT15, [NO, NO, NO, BIT15, BIT15, BIT15, BIT15, BIT15]),
+    (I4, MIN32, [NO, NO, NO, NO, MIN32, NO, MIN32, NO]),
+    (I4, MAX32, [NO, NO, NO, NO, MAX32, MAX32, MAX32, MAX32]),
+    (U4, -1, [NO, NO, NO, NO, NO, -1, FULL, FULL]),
+    (U4, 127, [127, 127, 127, 127, 127, 127, 127, 127]),
+    (U4, 128, [NO, 128, 128, 128, 128, 128, 128, 128]),
+    (U4, -129, [NO, NO, NO, NO, NO, -129, CUT, CUT]),
+    (U4, 256, [NO, NO, 256, 256, 256, 256, 256, 256]),
+    (U4, BIT15, [NO, NO, NO, BIT15, BIT15, BIT15, BIT15, BIT15]),
+    (U4, MIN32, [NO, NO, NO, NO, NO, MIN32, HALF, HALF]),
+    (U4, MAX32, [NO, NO, NO, NO, MAX32, MAX32, MAX32, MAX32]),
+    (I8, -1, [-1, NO, -1, NO, -1, NO, -1, NO]),
+    (I8, HALF, [NO, NO, NO, NO, NO, MIN32, HALF, HALF]),
+    (I8, BELOW, [NO, NO, NO, NO, NO, NO, BELOW, NO]),
+    (I8, FULL, [NO, NO, NO, NO, NO, -1, FULL, FULL]),
+    (I8, WORD, [NO, NO, NO, NO, NO, NO, WORD, WORD]),
+    (I8, MIN64, [NO, NO, NO, NO, NO, NO, MIN64, NO]),
+    (I8, MAX64, [NO, NO, NO, NO, NO, NO, MAX64, MAX64]),
+    (U8, -1, [NO, NO, NO, NO, NO, NO, NO, -1]),
+    (U8, HALF, [NO, NO, NO, NO, NO, MIN32, HALF, HALF]),
+    (U8, BELOW, [NO, NO, NO, NO, NO, NO, NO, BELOW]),
+    (U8, FULL, [NO, NO, NO, NO, NO, -1, FULL, FULL]),
+    (U8, WORD, [NO, NO, NO, NO, NO, NO, WORD, WORD]),
+    (U8, MIN64, [NO, NO, NO, NO, NO, NO, NO, MIN64]),
+    (U8, MAX64, [NO, NO, NO, NO, NO, NO, MAX64, MAX64]),
+];
+
+// The value of the kind that holds the number.
+fn held(kind: Kind, number: i64) -> i64
+    ensures { IsOfKind kind result }
 {
-    for (to, rest) in TYPES.iter().zip(want.0.iter()) {
-        assert!(rt; conv(*to, kind, a) == *rest);
-    }
-    for (to, same) in TYPES.iter().zip(want.1.iter()) {
-        assert!(rt; conv_ovf(*to, kind, a) == *same);
+    match kind {
+        I4 | U4 => i64::from(wrap32(i128::from(number))),
+        I8 | U8 => number,
     }
 }
 
-fn conversions_32(rt: &impl Abort, kind: Kind, rows: &[(i32, Converted)])
-    requires { width kind ≡ w32 }
-{
-    for (a, want) in rows {
-        conversions(rt, kind, i64::from(*a), want);
+// The kind of the same width without sign.
+fn unsigned(kind: Kind) -> Kind {
+    match kind {
+        I4 | U4 => U4,
+        I8 | U8 => U8,
     }
 }
 
-fn conversions_64(rt: &impl Abort, kind: Kind, rows: &[(i64, Converted)])
-    requires { width kind ≡ w64 }
+// The quotient and the remainder, or the divisor that gives none.
+fn divided(kind: Kind, a: i64, b: i64) -> (i64, i64)
+    requires a { IsOfKind kind a }
+    requires b { IsOfKind kind b }
 {
-    for (a, want) in rows {
-        conversions(rt, kind, *a, want);
+    match div_rem(kind, a, b) {
+        Ok(parts) => parts,
+        Err(DivFault::Zero) => (NO, 0),
+        Err(DivFault::Overflow) => (NO, -1),
     }
 }
 
-static ARITHMETIC_I4: [(i32, i32, Results); 10] = [
-    (
-        i32::MIN,
-        -1,
-        (None, Some(-2_147_483_647), None, Err(DivFault::Overflow)),
-    ),
-    (
-        i32::MIN,
-        1,
-        (
-            Some(-2_147_483_647),
-            None,
-            Some(-2_147_483_648),
-            Ok((-2_147_483_648, 0)),
-        ),
-    ),
-    (
-        i32::MIN,
-        0,
-        (
-            Some(-2_147_483_648),
-            Some(-2_147_483_648),
-            Some(0),
-            Err(DivFault::Zero),
-        ),
-    ),
-    (
-        i32::MAX,
-        1,
-        (
-            None,
-            Some(2_147_483_646),
-            Some(2_147_483_647),
-            Ok((2_147_483_647, 0)),
-        ),
-    ),
-    (i32::MAX, i32::MAX, (None, Some(0), None, Ok((1, 0)))),
-    (-1, -1, (Some(-2), Some(0), Some(1), Ok((1, 0)))),
-    (
-        0,
-        i32::MIN,
-        (Some(-2_147_483_648), None, Some(0), Ok((0, 0))),
-    ),
-    (-7, 2, (Some(-5), Some(-9), Some(-14), Ok((-3, -1)))),
-    (7, -2, (Some(5), Some(9), Some(-14), Ok((-3, 1)))),
-    (65_536, 65_536, (Some(131_072), Some(0), None, Ok((1, 0)))),
-];
+fn computes(rt: &impl Abort, kind: Kind, a: i64, b: i64, want: &[i64; 5]) {
+    let (a, b) = (held(kind, a), held(kind, b));
+    assert_eq!(rt; add_ovf(kind, a, b).unwrap_or(NO), want[0]);
+    assert_eq!(rt; sub_ovf(kind, a, b).unwrap_or(NO), want[1]);
+    assert_eq!(rt; mul_ovf(kind, a, b).unwrap_or(NO), want[2]);
+    assert_eq!(rt; divided(kind, a, b), (want[3], want[4]));
+}
 
-static ARITHMETIC_U4: [(i32, i32, Results); 10] = [
-    (i32::MIN, -1, (None, None, None, Ok((0, -2_147_483_648)))),
-    (
-        i32::MIN,
-        1,
-        (
-            Some(-2_147_483_647),
-            Some(2_147_483_647),
-            Some(-2_147_483_648),
-            Ok((-2_147_483_648, 0)),
-        ),
-    ),
-    (
-        i32::MIN,
-        0,
-        (
-            Some(-2_147_483_648),
-            Some(-2_147_483_648),
-            Some(0),
-            Err(DivFault::Zero),
-        ),
-    ),
-    (
-        i32::MAX,
-        1,
-        (
-            Some(-2_147_483_648),
-            Some(2_147_483_646),
-            Some(2_147_483_647),
-            Ok((2_147_483_647, 0)),
-        ),
-    ),
-    (i32::MAX, i32::MAX, (Some(-2), Some(0), None, Ok((1, 0)))),
-    (-1, -1, (None, Some(0), None, Ok((1, 0)))),
-    (
-        0,
-        i32::MIN,
-        (Some(-2_147_483_648), None, Some(0), Ok((0, 0))),
-    ),
-    (-7, 2, (Some(-5), Some(-9), None, Ok((2_147_483_644, 1)))),
-    (7, -2, (None, None, None, Ok((0, 7)))),
-    (65_536, 65_536, (Some(131_072), Some(0), None, Ok((1, 0)))),
-];
+fn shifts(rt: &impl Abort, kind: Kind, a: i64, amount: i64, want: &[i64; 3]) {
+    let a = held(kind, a);
+    assert_eq!(rt; shift(ShiftOp::Left, kind, a, amount), want[0]);
+    assert_eq!(rt; shift(ShiftOp::Right, kind, a, amount), want[1]);
+    assert_eq!(rt; shift(ShiftOp::RightUnsigned, kind, a, amount), want[2]);
+}
 
-static ARITHMETIC_I8: [(i64, i64, Results); 10] = [
-    (
-        i64::MIN,
-        -1,
-        (
-            None,
-            Some(-9_223_372_036_854_775_807),
-            None,
-            Err(DivFault::Overflow),
-        ),
-    ),
-    (
-        i64::MIN,
-        1,
-        (
-            Some(-9_223_372_036_854_775_807),
-            None,
-            Some(i64::MIN),
-            Ok((i64::MIN, 0)),
-        ),
-    ),
-    (
-        i64::MIN,
-        0,
-        (Some(i64::MIN), Some(i64::MIN), Some(0), Err(DivFault::Zero)),
-    ),
-    (
-        i64::MAX,
-        1,
-        (
-            None,
-            Some(9_223_372_036_854_775_806),
-            Some(i64::MAX),
-            Ok((i64::MAX, 0)),
-        ),
-    ),
-    (i64::MAX, i64::MAX, (None, Some(0), None, Ok((1, 0)))),
-    (-1, -1, (Some(-2), Some(0), Some(1), Ok((1, 0)))),
-    (0, i64::MIN, (Some(i64::MIN), None, Some(0), Ok((0, 0)))),
-    (-7, 2, (Some(-5), Some(-9), Some(-14), Ok((-3, -1)))),
-    (7, -2, (Some(5), Some(9), Some(-14), Ok((-3, 1)))),
-    (
-        4_294_967_296,
-        4_294_967_296,
-        (Some(8_589_934_592), Some(0), None, Ok((1, 0))),
-    ),
-];
+fn keeps_low_bits(rt: &impl Abort, kind: Kind, a: i64, want: &[i64; 8]) {
+    let a = held(kind, a);
+    for (to, rest) in TYPES.iter().zip(want.iter()) {
+        assert_eq!(rt; conv(*to, kind, a), *rest);
+    }
+}
 
-static ARITHMETIC_U8: [(i64, i64, Results); 10] = [
-    (i64::MIN, -1, (None, None, None, Ok((0, i64::MIN)))),
-    (
-        i64::MIN,
-        1,
-        (
-            Some(-9_223_372_036_854_775_807),
-            Some(i64::MAX),
-            Some(i64::MIN),
-            Ok((i64::MIN, 0)),
-        ),
-    ),
-    (
-        i64::MIN,
-        0,
-        (Some(i64::MIN), Some(i64::MIN), Some(0), Err(DivFault::Zero)),
-    ),
-    (
-        i64::MAX,
-        1,
-        (
-            Some(i64::MIN),
-            Some(9_223_372_036_854_775_806),
-            Some(i64::MAX),
-            Ok((i64::MAX, 0)),
-        ),
-    ),
-    (i64::MAX, i64::MAX, (Some(-2), Some(0), None, Ok((1, 0)))),
-    (-1, -1, (None, Some(0), None, Ok((1, 0)))),
-    (0, i64::MIN, (Some(i64::MIN), None, Some(0), Ok((0, 0)))),
-    (
-        -7,
-        2,
-        (Some(-5), Some(-9), None, Ok((9_223_372_036_854_775_804, 1))),
-    ),
-    (7, -2, (None, None, None, Ok((0, 7)))),
-    (
-        4_294_967_296,
-        4_294_967_296,
-        (Some(8_589_934_592), Some(0), None, Ok((1, 0))),
-    ),
-];
+fn keeps_number(rt: &impl Abort, kind: Kind, a: i64, want: &[i64; 8]) {
+    let a = held(kind, a);
+    for (to, same) in TYPES.iter().zip(want.iter()) {
+        assert_eq!(rt; conv_ovf(*to, kind, a).unwrap_or(NO), *same);
+    }
+}
 
-static SHIFTS_32: [(i32, i64, (i64, i64, i64)); 10] = [
-    (
-        i32::MIN,
-        0,
-        (-2_147_483_648, -2_147_483_648, -2_147_483_648),
-    ),
-    (i32::MIN, 31, (0, -1, 1)),
-    (
-        i32::MIN,
-        32,
-        (-2_147_483_648, -2_147_483_648, -2_147_483_648),
-    ),
-    (i32::MIN, 63, (0, -1, 1)),
-    (
-        i32::MIN,
-        64,
-        (-2_147_483_648, -2_147_483_648, -2_147_483_648),
-    ),
-    (i32::MAX, 0, (2_147_483_647, 2_147_483_647, 2_147_483_647)),
-    (i32::MAX, 31, (-2_147_483_648, 0, 0)),
-    (i32::MAX, 32, (2_147_483_647, 2_147_483_647, 2_147_483_647)),
-    (i32::MAX, 63, (-2_147_483_648, 0, 0)),
-    (i32::MAX, 64, (2_147_483_647, 2_147_483_647, 2_147_483_647)),
-];
+#[test]
+fn every_operation(rt: HostRuntime) {
+    for (kind, a, b, want) in &ARITHMETIC {
+        computes(&rt, *kind, *a, *b, want);
+    }
+    for (kind, a, amount, want) in &SHIFTS {
+        shifts(&rt, *kind, *a, *amount, want);
+        shifts(&rt, unsigned(*kind), *a, *amount, want);
+    }
+}
 
-static SHIFTS_64: [(i64, i64, (i64, i64, i64)); 10] = [
-    (i64::MIN, 0, (i64::MIN, i64::MIN, i64::MIN)),
-    (i64::MIN, 31, (0, -4_294_967_296, 4_294_967_296)),
-    (i64::MIN, 32, (0, -2_147_483_648, 2_147_483_648)),
-    (i64::MIN, 63, (0, -1, 1)),
-    (i64::MIN, 64, (i64::MIN, i64::MIN, i64::MIN)),
-    (i64::MAX, 0, (i64::MAX, i64::MAX, i64::MAX)),
-    (i64::MAX, 31, (-2_147_483_648, 4_294_967_295, 4_294_967_295)),
-    (i64::MAX, 32, (-4_294_967_296, 2_147_483_647, 2_147_483_647)),
-    (i64::MAX, 63, (i64::MIN, 0, 0)),
-    (i64::MAX, 64, (i64::MAX, i64::MAX, i64::MAX)),
-];
-
-const CONVERSIONS_I4: [(i32, Converted); 8] = [
-    (
-        -1,
-        (
-            [-1, 255, -1, 65_535, -1, -1, -1, 4_294_967_295],
-            [
-                Some(-1),
-                None,
-                Some(-1),
-                None,
-                Some(-1),
-                None,
-                Some(-1),
-                None,
-            ],
-        ),
-    ),
-    (
-        127,
-        (
-            [127, 127, 127, 127, 127, 127, 127, 127],
-            [
-                Some(127),
-                Some(127),
-                Some(127),
-                Some(127),
-                Some(127),
-                Some(127),
-                Some(127),
-                Some(127),
-            ],
-        ),
-    ),
-    (
-        128,
-        (
-            [-128, 128, 128, 128, 128, 128, 128, 128],
-            [
-                None,
-                Some(128),
-                Some(128),
-                Some(128),
-                Some(128),
-                Some(128),
-                Some(128),
-                Some(128),
-            ],
-        ),
-    ),
-    (
-        -129,
-        (
-            [127, 127, -129, 65_407, -129, -129, -129, 4_294_967_167],
-            [
-                None,
-                None,
-                Some(-129),
-                None,
-                Some(-129),
-                None,
-                Some(-129),
-                None,
-            ],
-        ),
-    ),
-    (
-        256,
-        (
-            [0, 0, 256, 256, 256, 256, 256, 256],
-            [
-                None,
-                None,
-                Some(256),
-                Some(256),
-                Some(256),
-                Some(256),
-                Some(256),
-                Some(256),
-            ],
-        ),
-    ),
-    (
-        32_768,
-        (
-            [0, 0, -32_768, 32_768, 32_768, 32_768, 32_768, 32_768],
-            [
-                None,
-                None,
-                None,
-                Some(32_768),
-                Some(32_768),
-                Some(32_768),
-                Some(32_768),
-                Some(32_768),
-            ],
-        ),
-    ),
-    (
-        i32::MIN,
-        (
-            [
-                0,
-                0,
-                0,
-                0,
-                -2_147_483_648,
-                -2_147_483_648,
-                -2_147_483_648,
-                2_147_483_648,
-            ],
-            [
-                None,
-                None,
-                None,
-                None,
-                Some(-2_147_483_648),
-                None,
-                Some(-2_147_483_648),
-                None,
-            ],
-        ),
-    ),
-    (
-        i32::MAX,
-        (
-            [
-                -1,
-                255,
-                -1,
-                65_535,
-                2_147_483_647,
-                2_147_483_647,
-                2_147_483_647,
-                2_147_483_647,
-            ],
-            [
-                None,
-                None,
-                None,
-                None,
-                Some(2_147_483_647),
-                Some(2_147_483_647),
-                Some(2_147_483_647),
-                Some(2_147_483_647),
-            ],
-        ),
-    ),
-];
-
-const CONVERSIONS_U4: [(i32, Converted); 8] = [
-    (
-        -1,
-        (
-            [-1, 255, -1, 65_535, -1, -1, -1, 4_294_967_295],
-            [
-                None,
-                None,
-                None,
-                None,
-                None,
-                Some(-1),
-                Some(4_294_967_295),
-                Some(4_294_967_295),
-            ],
-        ),
-    ),
-    (
-        127,
-        (
-            [127, 127, 127, 127, 127, 127, 127, 127],
-            [
-                Some(127),
-                Some(127),
-                Some(127),
-                Some(127),
-                Some(127),
-                Some(127),
-                Some(127),
-                Some(127),
-            ],
-        ),
-    ),
-    (
-        128,
-        (
-            [-128, 128, 128, 128, 128, 128, 128, 128],
-            [
-                None,
-                Some(128),
-                Some(128),
-                Some(128),
-                Some(128),
-                Some(128),
-                Some(128),
-                Some(128),
-            ],
-        ),
-    ),
-    (
-        -129,
-        (
-            [127, 127, -129, 65_407, -129, -129, -129, 4_294_967_167],
-            [
-                None,
-                None,
-                None,
-                None,
-                None,
-                Some(-129),
-                Some(4_294_967_167),
-                Some(4_294_967_167),
-            ],
-        ),
-    ),
-    (
-        256,
-        (
-            [0, 0, 256, 256, 256, 256, 256, 256],
-            [
-                None,
-                None,
-                Some(256),
-                Some(256),
-                Some(256),
-                Some(256),
-                Some(256),
-                Some(256),
-            ],
-        ),
-    ),
-    (
-        32_768,
-        (
-            [0, 0, -32_768, 32_768, 32_768, 32_768, 32_768, 32_768],
-            [
-                None,
-                None,
-                None,
-                Some(32_768),
-                Some(32_768),
-                Some(32_768),
-                Some(32_768),
-                Some(32_768),
-            ],
-        ),
-    ),
-    (
-        i32::MIN,
-        (
-            [
-                0,
-                0,
-                0,
-                0,
-                -2_147_483_648,
-                -2_147_483_648,
-                -2_147_483_648,
-                2_147_483_648,
-            ],
-            [
-                None,
-                None,
-                None,
-                None,
-                None,
-                Some(-2_147_483_648),
-                Some(2_147_483_648),
-                Some(2_147_483_648),
-            ],
-        ),
-    ),
-    (
-        i32::MAX,
-        (
-            [
-                -1,
-                255,
-                -1,
-                65_535,
-                2_147_483_647,
-                2_147_483_647,
-                2_147_483_647,
-                2_147_483_647,
-            ],
-            [
-                None,
-                None,
-                None,
-                None,
-                Some(2_147_483_647),
-                Some(2_147_483_647),
-                Some(2_147_483_647),
-                Some(2_147_483_647),
-            ],
-        ),
-    ),
-];
-
-const CONVERSIONS_I8: [(i64, Converted); 7] = [
-    (
-        -1,
-        (
-            [-1, 255, -1, 65_535, -1, -1, -1, -1],
-            [
-                Some(-1),
-                None,
-                Some(-1),
-                None,
-                Some(-1),
-                None,
-                Some(-1),
-                None,
-            ],
-        ),
-    ),
-    (
-        2_147_483_648,
-        (
-            [
-                0,
-                0,
-                0,
-                0,
-                -2_147_483_648,
-                -2_147_483_648,
-                2_147_483_648,
-                2_147_483_648,
-            ],
-            [
-                None,
-                None,
-                None,
-                None,
-                None,
-                Some(-2_147_483_648),
-                Some(2_147_483_648),
-                Some(2_147_483_648),
-            ],
-        ),
-    ),
-    (
-        -2_147_483_649,
-        (
-            [
-                -1,
-                255,
-                -1,
-                65_535,
-                2_147_483_647,
-                2_147_483_647,
-                -2_147_483_649,
-                -2_147_483_649,
-            ],
-            [
-                None,
-                None,
-                None,
-                None,
-                None,
-                None,
-                Some(-2_147_483_649),
-                None,
-            ],
-        ),
-    ),
-    (
-        4_294_967_295,
-        (
-            [-1, 255, -1, 65_535, -1, -1, 4_294_967_295, 4_294_967_295],
-            [
-                None,
-                None,
-                None,
-                None,
-                None,
-                Some(-1),
-                Some(4_294_967_295),
-                Some(4_294_967_295),
-            ],
-        ),
-    ),
-    (
-        4_294_967_296,
-        (
-            [0, 0, 0, 0, 0, 0, 4_294_967_296, 4_294_967_296],
-            [
-                None,
-                None,
-                None,
-                None,
-                None,
-                None,
-                Some(4_294_967_296),
-                Some(4_294_967_296),
-            ],
-        ),
-    ),
-    (
-        i64::MIN,
-        (
-            [0, 0, 0, 0, 0, 0, i64::MIN, i64::MIN],
-            [None, None, None, None, None, None, Some(i64::MIN), None],
-        ),
-    ),
-    (
-        i64::MAX,
-        (
-            [-1, 255, -1, 65_535, -1, -1, i64::MAX, i64::MAX],
-            [
-                None,
-                None,
-                None,
-                None,
-                None,
-                None,
-                Some(i64::MAX),
-                Some(i64::MAX),
-            ],
-        ),
-    ),
-];
-
-const CONVERSIONS_U8: [(i64, Converted); 7] = [
-    (
-        -1,
-        (
-            [-1, 255, -1, 65_535, -1, -1, -1, -1],
-            [None, None, None, None, None, None, None, Some(-1)],
-        ),
-    ),
-    (
-        2_147_483_648,
-        (
-            [
-                0,
-                0,
-                0,
-                0,
-                -2_147_483_648,
-                -2_147_483_648,
-                2_147_483_648,
-                2_147_483_648,
-            ],
-            [
-                None,
-                None,
-                None,
-                None,
-                None,
-                Some(-2_147_483_648),
-                Some(2_147_483_648),
-                Some(2_147_483_648),
-            ],
-        ),
-    ),
-    (
-        -2_147_483_649,
-        (
-            [
-                -1,
-                255,
-                -1,
-                65_535,
-                2_147_483_647,
-                2_147_483_647,
-                -2_147_483_649,
-                -2_147_483_649,
-            ],
-            [
-                None,
-                None,
-                None,
-                None,
-                None,
-                None,
-                None,
-                Some(-2_147_483_649),
-            ],
-        ),
-    ),
-    (
-        4_294_967_295,
-        (
-            [-1, 255, -1, 65_535, -1, -1, 4_294_967_295, 4_294_967_295],
-            [
-                None,
-                None,
-                None,
-                None,
-                None,
-                Some(-1),
-                Some(4_294_967_295),
-                Some(4_294_967_295),
-            ],
-        ),
-    ),
-    (
-        4_294_967_296,
-        (
-            [0, 0, 0, 0, 0, 0, 4_294_967_296, 4_294_967_296],
-            [
-                None,
-                None,
-                None,
-                None,
-                None,
-                None,
-                Some(4_294_967_296),
-                Some(4_294_967_296),
-            ],
-        ),
-    ),
-    (
-        i64::MIN,
-        (
-            [0, 0, 0, 0, 0, 0, i64::MIN, i64::MIN],
-            [None, None, None, None, None, None, None, Some(i64::MIN)],
-        ),
-    ),
-    (
-        i64::MAX,
-        (
-            [-1, 255, -1, 65_535, -1, -1, i64::MAX, i64::MAX],
-            [
-                None,
-                None,
-                None,
-                None,
-                None,
-                None,
-                Some(i64::MAX),
-                Some(i64::MAX),
-            ],
-        ),
-    ),
-];
+#[test]
+fn every_conversion(rt: HostRuntime) {
+    for (kind, a, want) in &LOW_BITS {
+        keeps_low_bits(&rt, *kind, *a, want);
+        keeps_low_bits(&rt, unsigned(*kind), *a, want);
+    }
+    for (kind, a, want) in &SAME_NUMBERS {
+        keeps_number(&rt, *kind, *a, want);
+    }
+}
 
 fn refuses(rt: &impl Abort, alloc: Global, bytes: &[u8], want: usize) {
     match Text::new(alloc, bytes) {
         Err(TextFault::NotUtf8(at)) => assert_eq!(rt; at, want),
         _ => panic!(rt; "no text was refused"),
     }
-}
-
-#[test]
-fn sums_products_and_quotients(rt: HostRuntime) {
-    arithmetic_32(&rt, Kind::I4, &ARITHMETIC_I4);
-    arithmetic_32(&rt, Kind::U4, &ARITHMETIC_U4);
-    arithmetic_64(&rt, Kind::I8, &ARITHMETIC_I8);
-    arithmetic_64(&rt, Kind::U8, &ARITHMETIC_U8);
-}
-
-#[test]
-fn every_shift(rt: HostRuntime) {
-    shifts_32(&rt, Kind::I4, &SHIFTS_32);
-    shifts_32(&rt, Kind::U4, &SHIFTS_32);
-    shifts_64(&rt, Kind::I8, &SHIFTS_64);
-    shifts_64(&rt, Kind::U8, &SHIFTS_64);
-}
-
-#[test]
-fn every_conversion(rt: HostRuntime) {
-    let rows = CONVERSIONS_I4;
-    conversions_32(&rt, Kind::I4, &rows);
-    let rows = CONVERSIONS_U4;
-    conversions_32(&rt, Kind::U4, &rows);
-    let rows = CONVERSIONS_I8;
-    conversions_64(&rt, Kind::I8, &rows);
-    let rows = CONVERSIONS_U8;
-    conversions_64(&rt, Kind::U8, &rows);
 }
 
 #[test]
