@@ -13,12 +13,13 @@ abbrev pub MayNote : Call → Option (List Call) → Option (List Call) → Type
 MayNote call old new = (new ≡ old) ⊎ (new ≡ noted call old)
 
 -- Calls that go through `size` things from the one at `at` on. Each asks for the next `most`, or for all that
--- are left where they are fewer, and is given `count` of them.
+-- are left where they are fewer, and is given `count` of them. A call that is given none is the last.
 abbrev pub ArePieces : (ℕ → ℕ → Call) → ℕ → ℕ → ℕ → List Call → Type 0
 ArePieces ask most size at [] = Unit {0}
 ArePieces ask most size at (call ∷ calls) =
     (at < size) × (call ≡ ask at (min most (size - at)))
-    × ((count : ℕ) × (count ≤ min most (size - at)) × ArePieces ask most size (at + count) calls)
+    × ((count : ℕ) × (count ≤ min most (size - at)) × (count ≡ 0 → calls ≡ [])
+    × ArePieces ask most size (at + count) calls)
 
 -- the calls from `old` to `new` go through `size` things from the first on
 abbrev pub AreMade : (ℕ → ℕ → Call) → ℕ → ℕ → Option (List Call) → Option (List Call) → Type 0

@@ -5,3 +5,4 @@ pub mod Fault
 pub mod Calls
 pub mod Mem
 pub mod Host
+pub mod Stream

@@ -1,11 +1,12 @@
 -- What the stores, sources and sinks in memory are.
-use Rattle.std.specs.Prelude.{ℕ, ◌+◌, ◌-◌, ◌^◌, min, List, [], ◌∷◌, ◌++◌, length, Contains, map, String, refl}
+use Rattle.std.specs.Prelude.{ℕ, List, [], ◌∷◌, ◌++◌, length, Contains, map, String, refl}
 use Rattle.std.specs.Coded.{Coded, code_by, coded×, coded_ℕ, coded_list, coded_option}
 use Rattle.std.specs.Global.{Global}
 use Rattle.std.specs.String.{string_bytes}
 use Rattle.std.specs.BTreeMap.{BTreeMap}
 use Rattle.std.specs.FinMap.{from_entries, code as files_code}
 use Rattle.ilc_io.specs.declared.call.Call.{Call}
+use Rattle.ilc_io.specs.Count.{next_count}
 use Rattle.ilc_io.specs.Store.{Store, Asked}
 
 -- the files that a map from names to bytes has
@@ -32,19 +33,20 @@ with_call call store = record store { calls = store.calls ++ call ∷ [] }
 
 -- the store after one more failed call of `size` or `read`, of which the count stays at its last value
 abbrev pub with_read_fault : MemStore → MemStore
-with_read_fault store = record store { read_faults = min (store.read_faults + 1) (2 ^ 64 - 1) }
+with_read_fault store = record store { read_faults = next_count store.read_faults }
 
 -- the same of `create` or `append`
 abbrev pub with_write_fault : MemStore → MemStore
-with_write_fault store = record store { write_faults = min (store.write_faults + 1) (2 ^ 64 - 1) }
+with_write_fault store = record store { write_faults = next_count store.write_faults }
 
 -- A source or a sink in memory: the bytes that are left or were written, how many calls came, the numbers of the
--- calls that are to fail, and how many have failed. The counts stay at their last value.
+-- calls that are to fail, how many have failed, and how many of these had no memory for what was to be written.
 pub record MemStream : Type 0 where
   pub bytes : List ℕ
   pub calls : ℕ
   pub failing : List ℕ
   pub faults : ℕ
+  pub refused : ℕ
 
 -- the number of the next call is among those that are to fail
 abbrev pub NextOfStreamFails : MemStream → Type 0
@@ -52,17 +54,30 @@ NextOfStreamFails stream = Contains stream.failing stream.calls
 
 -- the stream after one more call, which leaves these bytes
 abbrev pub with_bytes : List ℕ → MemStream → MemStream
-with_bytes bytes stream = record stream { bytes = bytes; calls = min (stream.calls + 1) (2 ^ 64 - 1) }
+with_bytes bytes stream = record stream { bytes = bytes; calls = next_count stream.calls }
 
 -- the stream after one more call, which failed
 abbrev pub with_fault : MemStream → MemStream
-with_fault stream = record stream { calls = min (stream.calls + 1) (2 ^ 64 - 1); faults = min (stream.faults + 1) (2 ^ 64 - 1) }
+with_fault stream = record stream { calls = next_count stream.calls; faults = next_count stream.faults }
+
+-- the stream after one more call, which had no memory
+abbrev pub without_memory : MemStream → MemStream
+without_memory stream = record (with_fault stream) { refused = next_count stream.refused }
 
 -- a store in memory is stored as its parts
 abbrev pub mem_store_code : Coded Call → Coded MemStore
 mem_store_code coded_call =
     code_by (Store × (Asked × (List Call × (List ℕ × (ℕ × ℕ)))))
-    (coded× (files_code (coded_list coded_ℕ) (coded_list coded_ℕ)) (coded× (coded_list (coded× (coded_list coded_ℕ) (coded_option coded_ℕ))) (coded× (coded_list coded_call) (coded× (coded_list coded_ℕ) (coded× coded_ℕ coded_ℕ)))))
+    (coded× (files_code (coded_list coded_ℕ) (coded_list coded_ℕ))
+    (coded× (coded_list (coded× (coded_list coded_ℕ) (coded_option coded_ℕ)))
+    (coded× (coded_list coded_call) (coded× (coded_list coded_ℕ) (coded× coded_ℕ coded_ℕ)))))
     (λ s. (s.files, (s.asked, (s.calls, (s.failing, (s.read_faults, s.write_faults))))))
-    (λ p. record { files = p.0; asked = p.1.0; calls = p.1.1.0; failing = p.1.1.1.0; read_faults = p.1.1.1.1.0; write_faults = p.1.1.1.1.1 })
+    (λ p. record {
+      files = p.0;
+      asked = p.1.0;
+      calls = p.1.1.0;
+      failing = p.1.1.1.0;
+      read_faults = p.1.1.1.1.0;
+      write_faults = p.1.1.1.1.1;
+    })
     (λ _. refl)

@@ -1,6 +1,7 @@
-ghost use Rattle.std.specs.Prelude.{◌≡◌, ◌⊎◌, ℕ, ◌+◌, ◌<◌, ◌≤◌, List, [], ◌∷◌, ◌++◌, length, take, drop, Option, Some, IfOk, OnOk, OnErr};
+ghost use Rattle.std.specs.Prelude.{◌≡◌, ℕ, ◌<◌, ◌≤◌, List, [], ◌∷◌, ◌++◌, length, take, drop, Option, Some, IfOk};
+ghost use Rattle.std.specs.Prelude.{OnOk, OnErr};
 ghost use Rattle.std.specs.Option.{option_map};
-ghost use Rattle.ilc_io.specs.Count.{HasRisen};
+ghost use Rattle.ilc_io.specs.Count.{next_count};
 ghost use Rattle.ilc_io.specs.Store.{Store, Asked, content, size_of, stored, appended};
 ghost use Rattle.ilc_io.specs.Calls.{noted, MayNote};
 ghost use Rattle.ilc_io.specs.declared.call.Call.{Call};
@@ -12,7 +13,8 @@ use num_core::Text;
 
 /// A store of files, which have names and no folders.
 ///
-/// A refused call created, read and added nothing.
+/// A refused call created, read and added nothing. A call that fails is counted once; one that answers, or
+/// that wants memory, leaves both counts.
 pub trait Files {
     /// The files, where the store tells them. A store that tells them once tells them always.
     ghost told: { Self → Option Store };
@@ -38,9 +40,11 @@ pub trait Files {
         ensures not_noted { OnErr result (asked self.new ≡ asked self.old) }
         ensures call_noted { OnOk result (calls self.new ≡ noted Call.Size (calls self.old)) }
         ensures may_be_noted { OnErr result (MayNote Call.Size (calls self.old) (calls self.new)) }
-        ensures failed { result ≡ Err IoFault.Failed → HasRisen (read_faults self.old) (read_faults self.new) }
+        ensures counted { result ≡ Err IoFault.Failed → read_faults self.new ≡ next_count (read_faults self.old) }
+        ensures not_counted { OnOk result (read_faults self.new ≡ read_faults self.old) }
+        ensures memory { result ≡ Err IoFault.Memory → read_faults self.new ≡ read_faults self.old }
         ensures read_faults_kept { read_faults self.old ≤ read_faults self.new }
-        ensures write_faults_kept { write_faults self.old ≤ write_faults self.new };
+        ensures same_write_faults { write_faults self.new ≡ write_faults self.old };
 
     /// Reads bytes of a file from a place on, and gives how many. None into a buffer that has room is
     /// the end of the file. A file that isn't there reads as empty.
@@ -48,14 +52,17 @@ pub trait Files {
         ensures within { IfOk result (λ count. count ≤ length into.old) }
         ensures exact { (store : Store) → told self.old ≡ Some store →
             IfOk result (λ count. Reads (drop at (content store name.now)) into.old into.new count) }
+        ensures untouched { OnErr result (into.new ≡ into.old) }
         ensures same_files { told self.new ≡ told self.old }
         ensures same_asked { asked self.new ≡ asked self.old }
         ensures call_noted { OnOk result (calls self.new ≡ noted (Call.Read at (length into.old)) (calls self.old)) }
         ensures may_be_noted { OnErr result
             (MayNote (Call.Read at (length into.old)) (calls self.old) (calls self.new)) }
-        ensures failed { result ≡ Err IoFault.Failed → HasRisen (read_faults self.old) (read_faults self.new) }
+        ensures counted { result ≡ Err IoFault.Failed → read_faults self.new ≡ next_count (read_faults self.old) }
+        ensures not_counted { OnOk result (read_faults self.new ≡ read_faults self.old) }
+        ensures memory { result ≡ Err IoFault.Memory → read_faults self.new ≡ read_faults self.old }
         ensures read_faults_kept { read_faults self.old ≤ read_faults self.new }
-        ensures write_faults_kept { write_faults self.old ≤ write_faults self.new };
+        ensures same_write_faults { write_faults self.new ≡ write_faults self.old };
 
     /// Makes a file empty, and begins it where there is none.
     fn create(&mut self, name: &Text) -> Result<(), IoFault>
@@ -64,9 +71,11 @@ pub trait Files {
         ensures same_asked { asked self.new ≡ asked self.old }
         ensures call_noted { OnOk result (calls self.new ≡ noted Call.Create (calls self.old)) }
         ensures may_be_noted { OnErr result (MayNote Call.Create (calls self.old) (calls self.new)) }
-        ensures failed { result ≡ Err IoFault.Failed → HasRisen (write_faults self.old) (write_faults self.new) }
-        ensures read_faults_kept { read_faults self.old ≤ read_faults self.new }
-        ensures write_faults_kept { write_faults self.old ≤ write_faults self.new };
+        ensures counted { result ≡ Err IoFault.Failed → write_faults self.new ≡ next_count (write_faults self.old) }
+        ensures not_counted { OnOk result (write_faults self.new ≡ write_faults self.old) }
+        ensures memory { result ≡ Err IoFault.Memory → write_faults self.new ≡ write_faults self.old }
+        ensures write_faults_kept { write_faults self.old ≤ write_faults self.new }
+        ensures same_read_faults { read_faults self.new ≡ read_faults self.old };
 
     /// Adds the first bytes of a piece at the end of a file, which it begins where there is none, and
     /// gives how many it took: at least one, if the piece has any.
@@ -81,9 +90,11 @@ pub trait Files {
         ensures call_noted { OnOk result (calls self.new ≡ noted (Call.Append (length piece.now)) (calls self.old)) }
         ensures may_be_noted { OnErr result
             (MayNote (Call.Append (length piece.now)) (calls self.old) (calls self.new)) }
-        ensures failed { result ≡ Err IoFault.Failed → HasRisen (write_faults self.old) (write_faults self.new) }
-        ensures read_faults_kept { read_faults self.old ≤ read_faults self.new }
-        ensures write_faults_kept { write_faults self.old ≤ write_faults self.new };
+        ensures counted { result ≡ Err IoFault.Failed → write_faults self.new ≡ next_count (write_faults self.old) }
+        ensures not_counted { OnOk result (write_faults self.new ≡ write_faults self.old) }
+        ensures memory { result ≡ Err IoFault.Memory → write_faults self.new ≡ write_faults self.old }
+        ensures write_faults_kept { write_faults self.old ≤ write_faults self.new }
+        ensures same_read_faults { read_faults self.new ≡ read_faults self.old };
 
     /// How many calls of `size` and `read` have failed. The count stays at its last value.
     fn read_faults(&self) -> u64

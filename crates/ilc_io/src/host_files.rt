@@ -1,18 +1,26 @@
-ghost use Rattle.std.specs.Prelude.{◌≡◌, ◌+◌, ◌-◌, ◌^◌, ◌<◌, ◌≤◌, [], ◌∷◌, ◌++◌, length, min, None, IfOk, OnOk, OnErr};
+ghost use Rattle.std.specs.Prelude.{◌≡◌, ◌<◌, ◌≤◌, [], length, None, IfOk, OnErr};
 ghost use Rattle.ilc_io.specs.Host.{with_read_fault, with_write_fault};
 
 use crate::answers::{Answers, note};
 use crate::fault::IoFault;
 use crate::files::Files;
+use crate::fill::{fill_from, write_some};
 use crate::name::str_of;
 use num_core::{List, Text};
 use std::alloc::Global;
-use std::fs::OpenOptions;
-use std::io::{ErrorKind, Read, Seek, SeekFrom, Write};
+use std::fs::{OpenFile, OpenOptions, Permissions};
+use std::io::{Error, ErrorKind, Seek, SeekFrom};
 use std::marker::Model;
+use std::os::unix::fs::PermissionsExt;
 use std::{fs, io};
 
+/// How an executable file in ELF begins (System V gABI, ELF identification).
+const MAGIC: &[u8] = b"\x7FELF";
+
 /// The files of the system, by their paths. It tells nothing of them.
+///
+/// What is no regular file, as a folder or a pipe, has no size, which is a fault. A file that begins as one in
+/// ELF is made with the permission to execute.
 #[derive(Drop)]
 pub struct HostFiles<'a, R: std::rt::Files> {
     system: &'a R,
@@ -27,7 +35,11 @@ impl<'a, R: std::rt::Files> Model for HostFiles<'a, R> {
 
     ghost Value = { HostStore };
 
-    ghost view = { λ store. record { asked = store.asked; read_faults = store.read_faults; write_faults = store.write_faults } };
+    ghost view = { λ store. record {
+      asked = store.asked;
+      read_faults = store.read_faults;
+      write_faults = store.write_faults;
+    } };
 }
 
 impl<'a, R: std::rt::Files> HostFiles<'a, R> {
@@ -101,8 +113,8 @@ impl<'a, R: std::rt::Files> Files for HostFiles<'a, R> {
     /// A file that takes no byte of a piece that has some has failed.
     fn append(&mut self, name: &Text, piece: &[u8]) -> Result<usize, IoFault> {
         match append_path(self.system, str_of(name), piece) {
-            Ok(count) if count > 0 || piece.is_empty() => Ok(count),
-            _ => Err(self.refuse_write()),
+            Ok(count) => Ok(count),
+            Err(_) => Err(self.refuse_write()),
         }
     }
 
@@ -118,7 +130,8 @@ impl<'a, R: std::rt::Files> Files for HostFiles<'a, R> {
 /// The size of the file of a path, or nothing where there is no such file.
 fn size_of_path<R: std::rt::Files>(system: &R, path: &str) -> io::Result<Option<u64>> {
     match fs::metadata(system, path) {
-        Ok(metadata) => Ok(Some(metadata.len())),
+        Ok(metadata) if metadata.is_file() => Ok(Some(metadata.len())),
+        Ok(_) => Err(Error::from(ErrorKind::InvalidInput)),
         Err(error) if error.kind() == ErrorKind::NotFound => Ok(None),
         Err(error) => Err(error),
     }
@@ -131,19 +144,34 @@ fn read_path<R: std::rt::Files>(
     at: u64,
     into: &mut [u8],
 ) -> io::Result<usize>
-    ensures { IfOk result (λ count. count ≤ length into.old) }
+    ensures within { IfOk result (λ count. count ≤ length into.old) }
+    ensures untouched { OnErr result (into.new ≡ into.old) }
 {
     let mut file = fs::open(system, path)?;
     file.seek(SeekFrom::Start(at))?;
-    file.read(into)
+    fill_from(&mut file, into)
 }
 
 /// Writes bytes at the end of the file of a path, which it begins where there is none.
 fn append_path<R: std::rt::Files>(system: &R, path: &str, piece: &[u8]) -> io::Result<usize>
-    ensures { IfOk result (λ count. count ≤ length piece.now) }
+    ensures within { IfOk result (λ count. count ≤ length piece.now) }
+    ensures some { IfOk result (λ count. 0 < length piece.now → 0 < count) }
 {
     let mut options = OpenOptions::new();
     options.append(true).create(true);
     let mut file = options.open(system, path)?;
-    file.write(piece)
+    if piece.starts_with(MAGIC) {
+        allow_execution(&file)?;
+    }
+    write_some(&mut file, piece)
+}
+
+/// Lets those execute a regular file without content who may read it.
+fn allow_execution<F: OpenFile>(file: &F) -> io::Result<()> {
+    let metadata = file.metadata()?;
+    if !metadata.is_file() || metadata.len() > 0 {
+        return Ok(());
+    }
+    let mode = metadata.permissions().mode();
+    file.set_permissions(Permissions::from_mode(mode | (mode & 0o444) >> 2))
 }

@@ -1,4 +1,5 @@
-ghost use Rattle.std.specs.Prelude.{◌≡◌, ◌⊎◌, ◌+◌, ◌-◌, ◌^◌, ◌≤◌, ◌↔◌, [], ◌∷◌, ◌++◌, length, min, Contains, drop, IsTrue, IfOk, OnOk, OnErr, IsErrOf, Some};
+ghost use Rattle.std.specs.Prelude.{◌≡◌, ◌⊎◌, ◌+◌, ◌-◌, ◌^◌, ◌≤◌, ◌↔◌, [], ◌∷◌, ◌++◌, length, min, Contains, drop};
+ghost use Rattle.std.specs.Prelude.{IsTrue, IfOk, OnOk, OnErr, IsErrOf, Some};
 ghost use Rattle.std.specs.Option.{option_copied};
 ghost use Rattle.std.specs.FinMap as map;
 ghost use Rattle.ilc_io.specs.Mem.{files_of, NextFails, with_call, with_read_fault, with_write_fault};
@@ -37,7 +38,14 @@ impl Model for MemFiles {
 
     ghost coded = { mem_store_code the_row.coded };
 
-    ghost view = { λ store. record { files = files_of store.files; asked = store.asked; calls = store.calls; failing = store.failing; read_faults = store.read_faults; write_faults = store.write_faults } };
+    ghost view = { λ store. record {
+      files = files_of store.files;
+      asked = store.asked;
+      calls = store.calls;
+      failing = store.failing;
+      read_faults = store.read_faults;
+      write_faults = store.write_faults;
+    } };
 }
 
 impl MemFiles {
@@ -157,6 +165,7 @@ impl Files for MemFiles {
             Reads (drop at (content self.old.files name.now)) into.old into.new count) }
         ensures full { IfOk result (λ count.
             count ≡ min (length (drop at (content self.old.files name.now))) (length into.old)) }
+        ensures untouched { OnErr result (into.new ≡ into.old) }
         ensures after_ok { OnOk result (self.new ≡ with_call (Call.Read at (length into.old)) self.old) }
         ensures read_faults_kept { self.old.read_faults ≤ self.new.read_faults }
 

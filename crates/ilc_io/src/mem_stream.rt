@@ -1,5 +1,6 @@
-ghost use Rattle.std.specs.Prelude.{◌≡◌, ◌+◌, ◌-◌, ◌^◌, ◌≤◌, ◌↔◌, [], ◌++◌, length, drop, min, Some, IsErr, IfOk, OnOk, OnErr};
-ghost use Rattle.ilc_io.specs.Mem.{NextOfStreamFails, with_bytes, with_fault};
+ghost use Rattle.std.specs.Prelude.{◌≡◌, ◌⊎◌, ◌≤◌, ◌↔◌, [], ◌++◌, length, drop, min, Some, IsErr, IfOk, OnOk, OnErr};
+ghost use Rattle.ilc_io.specs.Count.{next_count};
+ghost use Rattle.ilc_io.specs.Mem.{NextOfStreamFails, with_bytes, with_fault, without_memory};
 ghost use Rattle.ilc_io.specs.Piece.{Reads};
 
 use crate::fault::Failed;
@@ -25,7 +26,13 @@ impl Model for MemSource {
 
     ghost Value = { MemStream };
 
-    ghost view = { λ source. record { bytes = drop source.at source.bytes; calls = source.calls; failing = source.failing; faults = source.faults } };
+    ghost view = { λ source. record {
+      bytes = drop source.at source.bytes;
+      calls = source.calls;
+      failing = source.failing;
+      faults = source.faults;
+      refused = 0;
+    } };
 
     ghost invariant = { λ source. source.at ≤ length source.bytes };
 }
@@ -34,7 +41,7 @@ impl MemSource {
     /// A source of these bytes. `fail` has the numbers of the reads that are to fail.
     pub fn new(alloc: Global, bytes: &[u8], fail: &[u64]) -> Result<MemSource, Memory>
         ensures { IfOk result (λ source.
-            source ≡ record { bytes = bytes.now; calls = 0; failing = fail.now; faults = 0 }) }
+            source ≡ record { bytes = bytes.now; calls = 0; failing = fail.now; faults = 0; refused = 0 }) }
     {
         Ok(MemSource {
             bytes: List::from_slice(alloc, bytes)?,
@@ -55,6 +62,7 @@ impl Source for MemSource {
         ensures exact { IfOk result (λ count. Reads self.old.bytes into.old into.new count) }
         ensures full { IfOk result (λ count. count ≡ min (length self.old.bytes) (length into.old)) }
         ensures fails { IsErr result ↔ NextOfStreamFails self.old }
+        ensures untouched { OnErr result (into.new ≡ into.old) }
         ensures after_ok { IfOk result (λ count. self.new ≡ with_bytes (drop count self.old.bytes) self.old) }
         ensures after_failed { OnErr result (self.new ≡ with_fault self.old) }
         ensures faults_kept { self.old.faults ≤ self.new.faults }
@@ -82,6 +90,7 @@ pub struct MemSink {
     calls: u64,
     failing: List<u64>,
     faults: u64,
+    refused: u64,
 }
 
 impl Model for MemSink {
@@ -89,20 +98,27 @@ impl Model for MemSink {
 
     ghost Value = { MemStream };
 
-    ghost view = { λ sink. record { bytes = sink.bytes; calls = sink.calls; failing = sink.failing; faults = sink.faults } };
+    ghost view = { λ sink. record {
+      bytes = sink.bytes;
+      calls = sink.calls;
+      failing = sink.failing;
+      faults = sink.faults;
+      refused = sink.refused;
+    } };
 }
 
 impl MemSink {
     /// A sink with nothing written. `fail` has the numbers of the writes that are to fail.
     pub fn new(alloc: Global, fail: &[u64]) -> Result<MemSink, Memory>
         ensures { IfOk result (λ sink.
-            sink ≡ record { bytes = []; calls = 0; failing = fail.now; faults = 0 }) }
+            sink ≡ record { bytes = []; calls = 0; failing = fail.now; faults = 0; refused = 0 }) }
     {
         Ok(MemSink {
             bytes: List::new(alloc),
             calls: 0,
             failing: List::from_slice(alloc, fail)?,
             faults: 0,
+            refused: 0,
         })
     }
 
@@ -112,6 +128,27 @@ impl MemSink {
     {
         self.bytes.as_slice()
     }
+
+    /// How many of the writes that failed had no memory. The count stays at its last value.
+    pub fn refused(&self) -> u64
+        ensures { result ≡ self.now.refused }
+    {
+        self.refused
+    }
+
+    /// Adds a piece at the end, or counts that memory was wanting.
+    fn add(&mut self, piece: &[u8]) -> Result<(), Failed>
+        ensures ok { OnOk result (self.new ≡ record self.old { bytes = self.old.bytes ++ piece.now }) }
+        ensures err { OnErr result (self.new ≡ record self.old { refused = next_count self.old.refused }) }
+    {
+        match self.bytes.extend_from_slice(piece) {
+            Ok(()) => Ok(()),
+            Err(_) => {
+                self.refused = self.refused.saturating_add(1);
+                Err(Failed)
+            }
+        }
+    }
 }
 
 impl Sink for MemSink {
@@ -119,17 +156,19 @@ impl Sink for MemSink {
 
     ghost faults = { λ sink. sink.faults };
 
-    /// A growth that is refused is a failed write.
+    /// Without memory for the piece the write has failed, which is counted apart too.
     fn write(&mut self, piece: &[u8]) -> Result<usize, Failed>
         ensures whole { IfOk result (λ count. count ≡ length piece.now) }
-        ensures not_to_fail { OnOk result (¬ NextOfStreamFails self.old) }
+        ensures fails { NextOfStreamFails self.old → IsErr result }
         ensures after_ok { OnOk result (self.new ≡ with_bytes (self.old.bytes ++ piece.now) self.old) }
-        ensures after_failed { OnErr result (self.new ≡ with_fault self.old) }
+        ensures after_failed { OnErr result
+            ((NextOfStreamFails self.old × (self.new ≡ with_fault self.old))
+            ⊎ (¬ NextOfStreamFails self.old × (self.new ≡ without_memory self.old))) }
         ensures faults_kept { self.old.faults ≤ self.new.faults }
     {
         let fails = self.failing.as_slice().contains(&self.calls);
         self.calls = self.calls.saturating_add(1);
-        if fails || self.bytes.extend_from_slice(piece).is_err() {
+        if fails || self.add(piece).is_err() {
             self.faults = self.faults.saturating_add(1);
             return Err(Failed);
         }

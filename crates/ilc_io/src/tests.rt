@@ -5,6 +5,7 @@ use crate::{
 use num_core::Text;
 use std::alloc::Global;
 use std::io::{ErrorKind, Read};
+use std::os::unix::fs::PermissionsExt;
 use std::test::Fail;
 use std::{fs, io};
 
@@ -87,7 +88,7 @@ fn a_sink_in_memory(rt: HostRuntime) -> Result<(), Fail> {
     assert!(rt; sink.write(b"cd").is_err());
     assert!(rt; sink.write(b"ef").is_ok());
     assert_eq!(rt; sink.bytes(), b"abef".as_slice());
-    assert_eq!(rt; sink.faults(), 1);
+    assert_eq!(rt; (sink.faults(), sink.refused()), (1, 0));
     Ok(())
 }
 
@@ -104,7 +105,7 @@ impl Read for Broken {
 #[test]
 fn adapted_sources(rt: HostRuntime) {
     let mut buffer = [0; 4];
-    let mut source = StreamSource::new(b"abc".as_slice());
+    let mut source = StreamSource::telling(b"abc".as_slice());
     assert_eq!(rt; source.read(&mut buffer).unwrap_or(9), 3);
     assert_eq!(rt; source.faults(), 0);
     let mut broken = StreamSource::new(Broken);
@@ -114,7 +115,10 @@ fn adapted_sources(rt: HostRuntime) {
 
 /// A writer without room takes nothing, which is a fault.
 #[test]
-fn an_adapted_sink(rt: HostRuntime) {
+fn adapted_sinks(rt: HostRuntime) {
+    let mut sink = StreamSink::telling(Vec::new(rt.alloc()));
+    assert_eq!(rt; sink.write(b"abcd").unwrap_or(9), 4);
+    assert_eq!(rt; sink.into_writer().as_slice(), b"abcd".as_slice());
     let mut room = [0; 3];
     let mut sink = StreamSink::new(room.as_mut_slice());
     assert_eq!(rt; sink.write(b"abcd").unwrap_or(9), 3);
@@ -131,26 +135,38 @@ fn writes_and_reads(alloc: Global, files: &mut impl Files, path: &str) -> Result
     Ok(bytes.as_slice() == content.as_slice())
 }
 
+/// Whether the owner may execute the file of this path.
+fn is_executable(system: &impl fs::Files, path: &str) -> Result<bool, Fail> {
+    Ok(fs::metadata(system, path)?.permissions().mode() & 0o100 != 0)
+}
+
+/// A file is made anew, and with the permission to execute where it begins as one in ELF.
 #[test]
 fn files_of_the_system(rt: HostRuntime) -> Result<(), Fail> {
     let path = format!(in rt.alloc(); "/tmp/ilc_io-{}", std::process::id(rt.process()))?;
     let mut files = HostFiles::new(rt.alloc(), &rt);
     assert!(rt; writes_and_reads(rt.alloc(), &mut files, path.as_str())?);
     assert!(rt; writes_and_reads(rt.alloc(), &mut files, path.as_str())?);
+    assert!(rt; !is_executable(&rt, path.as_str())?);
+    let name = Text::new(rt.alloc(), path.as_bytes())?;
+    write_file(&mut files, &name, b"\x7FELF and more")?;
+    assert!(rt; is_executable(&rt, path.as_str())?);
     fs::remove_file(&rt, path.as_str())?;
     Ok(())
 }
 
-/// No file, which is an answer, and then faults: a folder is no file.
+/// No file, which is an answer, and then faults: neither a folder nor a device is a regular file.
 #[test]
 fn faults_of_the_system(rt: HostRuntime) -> Result<(), Fail> {
     let mut files = HostFiles::new(rt.alloc(), &rt);
     let missing = Text::new(rt.alloc(), b"/tmp/none/at/all")?;
     assert!(rt; files.size(&missing)?.is_none());
     let folder = Text::new(rt.alloc(), b"/tmp")?;
+    let device = Text::new(rt.alloc(), b"/dev/null")?;
     assert!(rt; files.create(&folder).is_err());
+    assert!(rt; files.size(&folder).is_err());
+    assert!(rt; files.size(&device).is_err());
     assert!(rt; files.read(&folder, 0, &mut [0; 4]).is_err());
-    assert_eq!(rt; files.read_faults(), 1);
-    assert_eq!(rt; files.write_faults(), 1);
+    assert_eq!(rt; (files.read_faults(), files.write_faults()), (3, 1));
     Ok(())
 }

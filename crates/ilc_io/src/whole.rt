@@ -1,9 +1,10 @@
-ghost use Rattle.std.specs.Prelude.{◌≡◌, ◌≢◌, ℕ, ◌+◌, ◌-◌, ◌<◌, ◌≤◌, ◌↔◌, ◌⊎◌, List, [], ◌∷◌, ◌++◌, length, take, drop, min, Option, Some, None, IfOk, OnOk, OnErr, IsErrOf, slice_range, vec_len};
+ghost use Rattle.std.specs.Prelude.{◌≡◌, ◌≢◌, ℕ, ◌+◌, ◌-◌, ◌<◌, ◌≤◌, ◌↔◌, ◌⊎◌, List, [], ◌∷◌, ◌++◌, length, take};
+ghost use Rattle.std.specs.Prelude.{drop, min, Option, Some, None, IfOk, OnOk, OnErr, IsErrOf, slice_range, vec_len};
 ghost use Rattle.std.specs.Option.{option_map};
 ghost use Rattle.std.specs.FinMap.{get};
 ghost use Rattle.ilc_io.specs.Calls.{noted, MayNote, AreMade, ReadsInPieces, WritesInPieces};
 ghost use Rattle.ilc_io.specs.declared.call.Call.{Call};
-ghost use Rattle.ilc_io.specs.Count.{HasRisen};
+ghost use Rattle.ilc_io.specs.Count.{next_count};
 ghost use Rattle.ilc_io.specs.Store.{Store, content, size_of, stored, IsPartlyStored};
 
 use crate::fault::FileFault;
@@ -48,14 +49,17 @@ pub fn read_file<F: Files>(
         ⊎ ((answer : Option ℕ) × (F.asked files.new ≡ F.asked files.old ++ (name.now, answer) ∷ [])) }
     ensures pieces { (size : ℕ) → F.asked files.new ≡ F.asked files.old ++ (name.now, Some size) ∷ [] →
         size ≤ limit → ReadsInPieces size (F.calls files.old) (F.calls files.new) }
-    ensures missing_reads_nothing { result ≡ Err FileFault.Missing → F.calls files.new ≡ noted Call.Size (F.calls files.old) }
+    ensures missing_reads_nothing { result ≡ Err FileFault.Missing →
+        F.calls files.new ≡ noted Call.Size (F.calls files.old) }
     ensures too_long_reads_nothing { (size : ℕ) → result ≡ Err (FileFault.TooLong size) →
         F.calls files.new ≡ noted Call.Size (F.calls files.old) }
     ensures size_refused { F.asked files.new ≡ F.asked files.old →
         MayNote Call.Size (F.calls files.old) (F.calls files.new) }
-    ensures failed { result ≡ Err FileFault.Failed → HasRisen (F.read_faults files.old) (F.read_faults files.new) }
+    ensures counted { result ≡ Err FileFault.Failed →
+        F.read_faults files.new ≡ next_count (F.read_faults files.old) }
+    ensures not_counted { result ≢ Err FileFault.Failed → F.read_faults files.new ≡ F.read_faults files.old }
     ensures read_faults_kept { F.read_faults files.old ≤ F.read_faults files.new }
-    ensures write_faults_kept { F.write_faults files.old ≤ F.write_faults files.new }
+    ensures same_write_faults { F.write_faults files.new ≡ F.write_faults files.old }
 {
     let Some(size) = files.size(name)? else {
         return Err(FileFault::Missing);
@@ -81,9 +85,11 @@ fn read_content<F: Files>(
     ensures same_files { F.told files.new ≡ F.told files.old }
     ensures same_asked { F.asked files.new ≡ F.asked files.old }
     ensures pieces { AreMade Call.Read READ_PIECE size (F.calls files.old) (F.calls files.new) }
-    ensures failed { result ≡ Err FileFault.Failed → HasRisen (F.read_faults files.old) (F.read_faults files.new) }
+    ensures counted { result ≡ Err FileFault.Failed →
+        F.read_faults files.new ≡ next_count (F.read_faults files.old) }
+    ensures not_counted { result ≢ Err FileFault.Failed → F.read_faults files.new ≡ F.read_faults files.old }
     ensures read_faults_kept { F.read_faults files.old ≤ F.read_faults files.new }
-    ensures write_faults_kept { F.write_faults files.old ≤ F.write_faults files.new }
+    ensures same_write_faults { F.write_faults files.new ≡ F.write_faults files.old }
 {
     let mut buffer = zeros(alloc, READ_PIECE)?;
     let mut bytes = List::new(alloc);
@@ -141,9 +147,11 @@ fn read_piece<F: Files>(
         (F.calls files.new ≡ noted (Call.Read (length bytes.old) wanted) (F.calls files.old)) }
     ensures may_be_noted { OnErr result
         (MayNote (Call.Read (length bytes.old) wanted) (F.calls files.old) (F.calls files.new)) }
-    ensures failed { result ≡ Err FileFault.Failed → HasRisen (F.read_faults files.old) (F.read_faults files.new) }
+    ensures counted { result ≡ Err FileFault.Failed →
+        F.read_faults files.new ≡ next_count (F.read_faults files.old) }
+    ensures not_counted { result ≢ Err FileFault.Failed → F.read_faults files.new ≡ F.read_faults files.old }
     ensures read_faults_kept { F.read_faults files.old ≤ F.read_faults files.new }
-    ensures write_faults_kept { F.write_faults files.old ≤ F.write_faults files.new }
+    ensures same_write_faults { F.write_faults files.new ≡ F.write_faults files.old }
 {
     let at = bytes.len() as u64;
     let count = files.read(name, at, &mut buffer[..wanted])?;
@@ -166,12 +174,13 @@ pub fn write_file<F: Files>(files: &mut F, name: &Text, bytes: &[u8]) -> Result<
     ensures never_too_long { (size : ℕ) → result ≢ Err (FileFault.TooLong size) }
     ensures pieces { OnOk result (WritesInPieces (length bytes.now) (F.calls files.old) (F.calls files.new)) }
     ensures pieces_broken_off { OnErr result
-        ((F.calls files.new ≡ F.calls files.old) ⊎ WritesInPieces (length bytes.now) (F.calls
-        files.old) (F.calls files.new)) }
-    ensures failed { result ≡ Err FileFault.Failed →
-        HasRisen (F.write_faults files.old) (F.write_faults files.new) }
-    ensures read_faults_kept { F.read_faults files.old ≤ F.read_faults files.new }
+        ((F.calls files.new ≡ F.calls files.old)
+        ⊎ WritesInPieces (length bytes.now) (F.calls files.old) (F.calls files.new)) }
+    ensures counted { result ≡ Err FileFault.Failed →
+        F.write_faults files.new ≡ next_count (F.write_faults files.old) }
+    ensures not_counted { result ≢ Err FileFault.Failed → F.write_faults files.new ≡ F.write_faults files.old }
     ensures write_faults_kept { F.write_faults files.old ≤ F.write_faults files.new }
+    ensures same_read_faults { F.read_faults files.new ≡ F.read_faults files.old }
 {
     files.create(name)?;
     let mut written = 0;

@@ -11,12 +11,13 @@ invariant-loop-bytes g l =
     record {
       room : vec_len l.buffer ≡ READ_PIECE;
       within : length l.bytes ≤ l.size;
-      content_so_far : (store : Store) → files.told l.fn.files ≡ Some store → l.bytes ≡ take (length l.bytes) (content store l.name);
+      content_so_far : (store : Store) → files.told l.fn.files ≡ Some store →
+          l.bytes ≡ take (length l.bytes) (content store l.name);
       same_files : files.told l.files ≡ files.told l.fn.files;
       pieces : Reaches Read READ_PIECE l.size (length l.bytes) (files.calls l.fn.files) (files.calls l.files);
       same_asked : files.asked l.files ≡ files.asked l.fn.files;
-      read_faults : files.read_faults l.fn.files ≤ files.read_faults l.files;
-      write_faults : files.write_faults l.fn.files ≤ files.write_faults l.files;
+      read_faults : files.read_faults l.files ≡ files.read_faults l.fn.files;
+      write_faults : files.write_faults l.files ≡ files.write_faults l.fn.files;
     }
 
 abbrev pub decreases-loop-bytes : goal.decreases-loop-bytes

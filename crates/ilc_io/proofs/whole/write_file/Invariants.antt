@@ -13,10 +13,12 @@ invariant-loop-written g l =
     record {
       within : l.written ≤ length l.bytes;
       files_so_far : files.told l.files ≡ option_map (stored l.name (take l.written l.bytes)) (files.told l.fn.files);
-      pieces : Reaches (λ _ len. Append len) WRITE_PIECE (length l.bytes) l.written (noted Create (files.calls l.fn.files)) (files.calls l.files);
+      pieces :
+          Reaches (λ _ len. Append len) WRITE_PIECE (length l.bytes) l.written
+          (noted Create (files.calls l.fn.files)) (files.calls l.files);
       same_asked : files.asked l.files ≡ files.asked l.fn.files;
-      read_faults : files.read_faults l.fn.files ≤ files.read_faults l.files;
-      write_faults : files.write_faults l.fn.files ≤ files.write_faults l.files;
+      read_faults : files.read_faults l.files ≡ files.read_faults l.fn.files;
+      write_faults : files.write_faults l.files ≡ files.write_faults l.fn.files;
     }
 
 abbrev pub decreases-loop-written : goal.decreases-loop-written
