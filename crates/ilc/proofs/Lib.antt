@@ -3,3 +3,9 @@ pub mod Hex
 pub mod Counted
 pub mod Faults
 pub mod NumberOf
+pub mod WordLemmas
+pub mod NotRead
+pub mod Shapes
+pub mod WordLaws
+pub mod OneOutcome
+pub mod Answers

@@ -14,11 +14,9 @@ use Rattle.ilc_build.specs.declared.depths.Known.{Known}
 use Rattle.ilc.specs.Cause.{Cause, elf_limit}
 use Rattle.ilc.specs.Line.{status_of, line_of}
 use Rattle.ilc.specs.Printed.{Prints, BreaksOff}
-use Rattle.ilc.specs.Refusals.{IsFormed}
 use Rattle.ilc.specs.Seen.{StoreSeen, StreamsSeen}
 use Rattle.ilc.specs.declared.outcome.Outcome.{Outcome}
-use Rattle.ilc.specs.declared.outcome.Outcome.TheVariants.{Refused, Memory}
-use Rattle.ilc.specs.declared.refusal.Refusal.{Refusal}
+use Rattle.ilc.specs.declared.outcome.Outcome.TheVariants.{Memory}
 
 -- A line was printed as error text: whole, or its front where a write failed and the sink counted it. Nothing else
 -- was read or written.
@@ -31,7 +29,6 @@ pub record Answers (words : List (List ℕ)) (before now : StoreSeen) (streams s
   pub between : StreamsSeen
   pub its_status : status ≡ status_of outcome
   pub cause : Cause words before now streams between outcome
-  pub formed : (refusal : Refusal) → outcome ≡ Refused refusal → IsFormed refusal
   pub reports : Reports (line_of outcome) between streams'
 
 -- A bare body was read from the file FILE, and OUT now has an executable file that keeps step with it.

@@ -91,7 +91,7 @@ pub record IsBuilt (file elf : List ℕ) (before now : StoreSeen) : Type 0 where
   pub read : IsRead file body_limit bytes before now
   pub builds : Builds bytes elf
   pub same_files : SameFiles before now
-  pub write_faults : before.write_faults ≤ now.write_faults
+  pub write_faults : now.write_faults ≡ before.write_faults
 
 -- of a writing that broke off, at `create` or at one of the appends
 abbrev pub HasBegun : ℕ → StoreSeen → StoreSeen → Type 0

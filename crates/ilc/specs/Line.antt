@@ -7,6 +7,7 @@ use Rattle.rv_step.specs.declared.trap.Cause.TheVariants.{Fetch, Load, Store, Il
 use Rattle.ilc.specs.Refusals.{refusal_row, listed_fields}
 use Rattle.ilc.specs.declared.outcome.Outcome.{Outcome}
 use Rattle.ilc.specs.declared.outcome.Outcome.TheVariants.{Usage, NoFile, TooLong, Refused, ReadFault, WriteFault, Ended, Written, Memory}
+use Rattle.ilc.specs.declared.refusal.Fault.{Fault}
 use Rattle.ilc.specs.declared.refusal.Field.{Field}
 use Rattle.ilc.specs.declared.refusal.Field.TheVariants.{Text, Number, Address, Cause}
 
@@ -40,9 +41,17 @@ field_text (Number number) = decimal number
 field_text (Address number) = hexadecimal number
 field_text (Cause cause) = cause_name cause
 
--- a line of the program: its name, the words, each behind a space, and the end of the line
+-- words, each behind a space
+abbrev pub words : List (List ℕ) → List ℕ
+words written = flat_map (λ word. codes " " ++ word) written
+
+-- a line of the program: its name, words and the end of the line
 abbrev pub line : List (List ℕ) → List ℕ
-line words = codes "ilc:" ++ (flat_map (λ word. codes " " ++ word) words ++ codes "\n")
+line written = codes "ilc:" ++ (words written ++ codes "\n")
+
+-- the line of a refusal for a fault, with these fields
+abbrev pub refusal_line : Fault → List (List ℕ) → List ℕ
+refusal_line fault fields = line (decimal (refusal_row fault).number ∷ (refusal_row fault).name ∷ fields)
 
 -- The line of an outcome. A program that has ended, and a file that was written, have none.
 abbrev pub line_of : Outcome → List ℕ
@@ -54,9 +63,7 @@ line_of (TooLong size) = line (codes "limit" ∷ codes "file" ∷ decimal size �
 line_of ReadFault = line (codes "read" ∷ codes "fault" ∷ [])
 line_of WriteFault = line (codes "write" ∷ codes "fault" ∷ [])
 line_of Memory = line (codes "memory" ∷ [])
-line_of (Refused refusal) =
-    line (decimal (refusal_row refusal.fault).number ∷ (refusal_row refusal.fault).name
-    ∷ map field_text (listed_fields refusal.fields))
+line_of (Refused refusal) = refusal_line refusal.fault (map field_text (listed_fields refusal.fields))
 
 -- what `--count` prints of a number of machine steps
 abbrev pub count_line : ℕ → List ℕ

@@ -13,12 +13,12 @@ use Rattle.ilc.specs.declared.refusal.Refusal.{Refusal}
 abbrev pub IsOrMemory : Outcome → Outcome → Type 0
 IsOrMemory expected outcome = (outcome ≡ expected) ⊎ (outcome ≡ Memory)
 
--- what a fault in reading the file of a name comes out as
-abbrev pub read_gives : FileFault → List ℕ → Outcome
-read_gives Missing name = NoFile name
-read_gives (FileTooLong size) name = TooLong size
-read_gives Failed name = ReadFault
-read_gives FileMemory name = Memory
+-- what a fault in reading the file of a name comes out as; that the name is told takes memory
+abbrev pub ReadGives : FileFault → List ℕ → Outcome → Type 0
+ReadGives Missing name outcome = IsOrMemory (NoFile name) outcome
+ReadGives (FileTooLong size) name outcome = outcome ≡ TooLong size
+ReadGives Failed name outcome = outcome ≡ ReadFault
+ReadGives FileMemory name outcome = outcome ≡ Memory
 
 -- where the bytes of a file are no bare body for this fault, the outcome is how it is told
 abbrev pub IsRefusedBy : List ℕ → List ℕ → BuildFault → Outcome → Type 0

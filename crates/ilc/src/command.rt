@@ -1,4 +1,4 @@
-ghost use Rattle.std.specs.Prelude.{◌≡◌, ◌<◌, ◌^◌, length, IfOk, unwrap_or};
+ghost use Rattle.std.specs.Prelude.{◌≡◌, ◌<◌, ◌^◌, length, IfOk, IsUtf8, unwrap_or};
 ghost use Rattle.ilc.specs.Grammar.{number_of as number_of_word};
 ghost use Rattle.ilc.specs.Words.{command_of, command_from as command_of_items, first_name as first_name_of, argument_of as argument_in, behind_command, default_steps, Reads};
 
@@ -79,7 +79,8 @@ fn first_name(items: &[Item]) -> &[u8]
 
 /// The argument of an option, or no bytes.
 fn argument_of(items: &[Item], wanted: CommandOption) -> &[u8]
-    ensures { result.now ≡ argument_in wanted items.now }
+    ensures argument { result.now ≡ argument_in wanted items.now }
+    ensures utf8 { IsUtf8 result.now }
 {
     for item in items {
         if let Item::Setting(_, argument) = item {

@@ -1,4 +1,4 @@
-ghost use Rattle.std.specs.Prelude.{◌≡◌, ℕ, ◌↔◌, ◌≤◌, ◌&&◌, length, count_by, codes, decimal as decimal_digits};
+ghost use Rattle.std.specs.Prelude.{◌≡◌, ℕ, ◌↔◌, ◌≤◌, ◌&&◌, length, count_by, codes, IsUtf8, decimal as decimal_digits};
 ghost use Rattle.std.specs.Str.{bytes_eq};
 ghost use Rattle.std.specs.List.{find, list_any, list_all};
 ghost use Rattle.ilc.specs.Grammar.{option_row, command_row, commands, is_name as is_name_of, is_name_item, number_of as number_of_word, gives as gives_option, writes_to as writes_to_file, is_given as is_given_in, fits as fits_behind, may_be_given as may_be_given_behind, has_room as has_room_for, option_named as option_of, command_named as command_of_name, is_whole as is_whole_line};
@@ -270,6 +270,7 @@ pub(crate) fn is_name(word: &Text) -> bool
 
 /// The number that a word is, in decimal digits without sign and leading zeros, if it is at most `most`.
 pub(crate) fn number_of(most: u64, word: &[u8]) -> Option<u64>
+    requires { IsUtf8 word.now }
     ensures number { result ≡ number_of_word most word.now }
     ensures spelled { (number : ℕ) → result ≡ Some number
         ↔ (number ≤ most) × (word.now ≡ decimal_digits number) }

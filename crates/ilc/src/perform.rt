@@ -2,7 +2,7 @@ ghost use Rattle.std.specs.Prelude.{◌≡◌, ℕ, List, ◌<◌, ◌≤◌, le
 ghost use Rattle.ilc.specs.Seen.{store_seen, streams_seen};
 ghost use Rattle.ilc.specs.Cause.{NotTaken, IsRead, IsBuilt, WriteOutcome, BodyOutcome, IsLoaded, MachineOutcome, Cause};
 ghost use Rattle.ilc.specs.Stages.{Stage, body_stages, elf_stages, fault_at, body_method};
-ghost use Rattle.ilc.specs.Reading.{IsRefusedBy, IsOrMemory, read_gives};
+ghost use Rattle.ilc.specs.Reading.{IsRefusedBy, IsOrMemory, ReadGives};
 ghost use Rattle.ilc.specs.declared.outcome.Outcome.TheVariants.{Refused};
 
 use crate::command::{Command, parse_command};
@@ -121,7 +121,7 @@ fn read<F: Files>(
         (store_seen (F.told files.old) (F.asked files.old) (F.calls files.old) (F.read_faults files.old) (F.write_faults files.old))
         (store_seen (F.told files.new) (F.asked files.new) (F.calls files.new) (F.read_faults files.new) (F.write_faults files.new))) }
     ensures same_files { F.told files.new ≡ F.told files.old }
-    ensures write_faults_kept { F.write_faults files.old ≤ F.write_faults files.new }
+    ensures same_write_faults { F.write_faults files.new ≡ F.write_faults files.old }
 {
     match read_file(alloc, files, name, limit) {
         Ok(bytes) => Ok(bytes),
@@ -131,7 +131,7 @@ fn read<F: Files>(
 
 /// The outcome of a file that wasn't read.
 fn read_outcome(alloc: Global, fault: FileFault, name: &Text) -> Outcome
-    ensures { IsOrMemory (read_gives fault name.now) result }
+    ensures { ReadGives fault name.now result }
 {
     match fault {
         FileFault::Missing => match copied(alloc, name.bytes()) {

@@ -2,9 +2,9 @@ ghost use Rattle.std.specs.Prelude.{◌≡◌, ◌+◌, ◌<◌, ◌≤◌, ◌+
 ghost use Rattle.std.specs.Fmt.{digit_glyph};
 ghost use Rattle.std.specs.List.{flat_map};
 ghost use Rattle.ilc_io.specs.Count.{HasRisen};
-ghost use Rattle.ilc.specs.Line.{line, line_of, count_line, hexadecimal, field_text, cause_name as name_of_cause};
+ghost use Rattle.ilc.specs.Line.{line, words, line_of, refusal_line, count_line, hexadecimal, field_text, cause_name as name_of_cause};
+ghost use Rattle.ilc.specs.Refusals.{listed_fields};
 ghost use Rattle.ilc.specs.Printed.{Adds, AddsFront};
-ghost use Rattle.ilc.specs.declared.outcome.Outcome.TheVariants.{Refused};
 
 use crate::outcome::Outcome;
 use crate::refusal::{Field, Fields, Refusal};
@@ -41,33 +41,66 @@ pub(crate) fn report<S: Sink>(sink: &mut S, outcome: &Outcome) -> Result<(), Fai
 /// Prints the line of a refusal.
 fn report_refusal<S: Sink>(sink: &mut S, refusal: &Refusal) -> Result<(), Failed>
     ensures printed { OnOk result
-        (Adds (line_of (Refused refusal.now)) (S.written sink.old) (S.written sink.new)) }
+        (Adds (refusal_line refusal.now.fault (map field_text (listed_fields refusal.now.fields)))
+        (S.written sink.old) (S.written sink.new)) }
     ensures broken_off { OnErr result
-        (AddsFront (line_of (Refused refusal.now)) (S.written sink.old) (S.written sink.new)) }
+        (AddsFront (refusal_line refusal.now.fault (map field_text (listed_fields refusal.now.fields)))
+        (S.written sink.old) (S.written sink.new)) }
     ensures failed { OnErr result (HasRisen (S.faults sink.old) (S.faults sink.new)) }
     ensures faults_kept { S.faults sink.old ≤ S.faults sink.new }
 {
     let mut digits = Buffer::new();
     let number = decimal(&mut digits, refusal.fault.row().number);
     let name = refusal.fault.name();
-    let (mut a, mut b, mut c) = (Room::new(), Room::new(), Room::new());
-    match &refusal.fields {
-        Fields::None => write_line(sink, &[number, name]),
-        Fields::One(first) => {
-            let first = text_of(first, &mut a);
-            write_line(sink, &[number, name, first])
-        }
+    write_pieces(sink, &[b"ilc: ", number, b" ", name])?;
+    write_fields(sink, &refusal.fields)?;
+    write_all(sink, b"\n")
+}
+
+/// Writes the fields of a refusal, each behind a space.
+fn write_fields<S: Sink>(sink: &mut S, fields: &Fields) -> Result<(), Failed>
+    ensures printed { OnOk result (Adds (words (map field_text (listed_fields fields.now)))
+        (S.written sink.old) (S.written sink.new)) }
+    ensures broken_off { OnErr result (AddsFront (words (map field_text (listed_fields fields.now)))
+        (S.written sink.old) (S.written sink.new)) }
+    ensures failed { OnErr result (HasRisen (S.faults sink.old) (S.faults sink.new)) }
+    ensures faults_kept { S.faults sink.old ≤ S.faults sink.new }
+{
+    match fields {
+        Fields::None => write_all(sink, b""),
+        Fields::One(first) => write_field(sink, first),
         Fields::Two(first, second) => {
-            let first = text_of(first, &mut a);
-            let second = text_of(second, &mut b);
-            write_line(sink, &[number, name, first, second])
+            write_field(sink, first)?;
+            write_field(sink, second)
         }
         Fields::Three(first, second, third) => {
-            let first = text_of(first, &mut a);
-            let second = text_of(second, &mut b);
-            let third = text_of(third, &mut c);
-            write_line(sink, &[number, name, first, second, third])
+            write_field(sink, first)?;
+            write_field(sink, second)?;
+            write_field(sink, third)
         }
+    }
+}
+
+/// Writes a field of a refusal behind a space.
+fn write_field<S: Sink>(sink: &mut S, field: &Field) -> Result<(), Failed>
+    ensures printed { OnOk result (Adds (codes " " ++ field_text field.now)
+        (S.written sink.old) (S.written sink.new)) }
+    ensures broken_off { OnErr result (AddsFront (codes " " ++ field_text field.now)
+        (S.written sink.old) (S.written sink.new)) }
+    ensures failed { OnErr result (HasRisen (S.faults sink.old) (S.faults sink.new)) }
+    ensures faults_kept { S.faults sink.old ≤ S.faults sink.new }
+{
+    match field {
+        Field::Text(text) => write_word(sink, text.bytes()),
+        Field::Number(number) => {
+            let mut digits = Buffer::new();
+            write_word(sink, decimal(&mut digits, *number))
+        }
+        Field::Address(number) => {
+            let (digits, at) = hex(*number);
+            write_word(sink, &digits[at..])
+        }
+        Field::Cause(cause) => write_word(sink, cause_name(*cause)),
     }
 }
 
@@ -90,34 +123,6 @@ pub(crate) fn decimal(buffer: &mut Buffer, number: u64) -> &[u8]
     buffer.format(number).as_bytes()
 }
 
-/// Room for the digits of a number.
-#[derive(Drop)]
-struct Room {
-    decimal: Buffer,
-    hexadecimal: [u8; 16],
-}
-
-impl Room {
-    fn new() -> Room {
-        Room {
-            decimal: Buffer::new(),
-            hexadecimal: [0; 16],
-        }
-    }
-}
-
-/// A field as it is printed.
-fn text_of<'a>(field: &'a Field, room: &'a mut Room) -> &'a [u8]
-    ensures { result.now ≡ field_text field.now }
-{
-    match field {
-        Field::Text(text) => text.bytes(),
-        Field::Number(number) => decimal(&mut room.decimal, *number),
-        Field::Address(number) => hex(*number, &mut room.hexadecimal),
-        Field::Cause(cause) => cause_name(*cause),
-    }
-}
-
 fn cause_name(cause: Cause) -> &'static [u8]
     ensures { result.now ≡ name_of_cause cause }
 {
@@ -130,17 +135,8 @@ fn cause_name(cause: Cause) -> &'static [u8]
     }
 }
 
-/// The hexadecimal digits of a number.
-fn hex(number: u64, room: &mut [u8; 16]) -> &[u8]
-    ensures { result.now ≡ hexadecimal number }
-{
-    let (digits, at) = hex_digits(number);
-    *room = digits;
-    &room[at..]
-}
-
 /// The hexadecimal digits of a number, and where in the buffer they begin.
-fn hex_digits(number: u64) -> ([u8; 16], usize)
+fn hex(number: u64) -> ([u8; 16], usize)
     ensures digits { drop result.1 result.0 ≡ hexadecimal number }
     ensures begin { result.1 < 16 }
     ensures size { length result.0 ≡ 16 }
@@ -170,32 +166,44 @@ fn hex_digit(digit: u64) -> u8
 }
 
 /// Writes a line of the program, of these words. A refused write breaks it off.
-fn write_line<S: Sink>(sink: &mut S, words: &[&[u8]]) -> Result<(), Failed>
+fn write_line<S: Sink>(sink: &mut S, written: &[&[u8]]) -> Result<(), Failed>
     ensures printed { OnOk result
-        (Adds (line (map (λ word. word.now) words.now)) (S.written sink.old) (S.written sink.new)) }
+        (Adds (line (map (λ word. word.now) written.now)) (S.written sink.old) (S.written sink.new)) }
     ensures broken_off { OnErr result
-        (AddsFront (line (map (λ word. word.now) words.now)) (S.written sink.old) (S.written sink.new)) }
+        (AddsFront (line (map (λ word. word.now) written.now)) (S.written sink.old) (S.written sink.new)) }
     ensures failed { OnErr result (HasRisen (S.faults sink.old) (S.faults sink.new)) }
     ensures faults_kept { S.faults sink.old ≤ S.faults sink.new }
 {
     write_all(sink, b"ilc:")?;
-    write_words(sink, words)?;
+    write_words(sink, written)?;
     write_all(sink, b"\n")
 }
 
 /// Writes words, each behind a space.
-fn write_words<S: Sink>(sink: &mut S, words: &[&[u8]]) -> Result<(), Failed>
-    ensures printed { OnOk result (Adds (flat_map (λ word. codes " " ++ word.now) words.now)
+fn write_words<S: Sink>(sink: &mut S, written: &[&[u8]]) -> Result<(), Failed>
+    ensures printed { OnOk result (Adds (flat_map (λ word. codes " " ++ word.now) written.now)
         (S.written sink.old) (S.written sink.new)) }
-    ensures broken_off { OnErr result (AddsFront (flat_map (λ word. codes " " ++ word.now) words.now)
+    ensures broken_off { OnErr result (AddsFront (flat_map (λ word. codes " " ++ word.now) written.now)
         (S.written sink.old) (S.written sink.new)) }
     ensures failed { OnErr result (HasRisen (S.faults sink.old) (S.faults sink.new)) }
     ensures faults_kept { S.faults sink.old ≤ S.faults sink.new }
 {
-    for word in words {
-        write_pieces(sink, &[b" ", word])?;
+    for word in written {
+        write_word(sink, word)?;
     }
     Ok(())
+}
+
+/// Writes a word behind a space.
+fn write_word<S: Sink>(sink: &mut S, word: &[u8]) -> Result<(), Failed>
+    ensures printed { OnOk result (Adds (codes " " ++ word.now)
+        (S.written sink.old) (S.written sink.new)) }
+    ensures broken_off { OnErr result (AddsFront (codes " " ++ word.now)
+        (S.written sink.old) (S.written sink.new)) }
+    ensures failed { OnErr result (HasRisen (S.faults sink.old) (S.faults sink.new)) }
+    ensures faults_kept { S.faults sink.old ≤ S.faults sink.new }
+{
+    write_pieces(sink, &[b" ", word])
 }
 
 /// Writes the pieces one after another. A refused write breaks them off.

@@ -3,7 +3,7 @@ use Rattle.std.proofs.Common.{◌≡◌, ◌∙◌, ◌+◌, ◌-◌, ◌<◌, �
 use Rattle.std.proofs.lemmas.List.{length-set, drop-set-lt}
 use Rattle.std.specs.Fmt.{digits_onto}
 use Rattle.ilc.proofs.Hex.{hex_next, hex_whole, hex_room, hex_left, hex_all}
-use Rattle.ilc.proofs.report.hex_digits.Goals as goal
+use Rattle.ilc.proofs.report.hex.Goals as goal
 
 pub loop-rest-init : goal.loop-rest-init
 loop-rest-init c = record { size = refl; room = omega arith; left = omega arith; digit = c.hex_digit.ensures; number = hex_all c.args.number }

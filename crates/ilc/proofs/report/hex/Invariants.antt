@@ -2,7 +2,7 @@ use Rattle.std.proofs.Common.{◌≡◌, ◌+◌, ◌^◌, ◌<◌, ◌≤◌, d
 use Rattle.std.proofs.Common.{◌%◌}
 use Rattle.std.specs.Fmt.{digits_onto, digit_glyph}
 use Rattle.ilc.specs.Line.{hexadecimal}
-use Rattle.ilc.proofs.report.hex_digits.Given as goal
+use Rattle.ilc.proofs.report.hex.Given as goal
 
 -- the digit at the place is the last of what is left, and with it and those behind it what is left makes the number
 abbrev pub invariant-loop-rest : goal.invariant-loop-rest
