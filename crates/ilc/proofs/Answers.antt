@@ -28,7 +28,8 @@ stage_fails Operations file place e = omega arith
 stage_fails Verification file place e = omega arith
 stage_fails Load file place e = omega arith
 
-not_taken_fails : (stages : List Stage) (name : List ℕ) (limit : ℕ) (before now : StoreSeen) (o : Outcome) → NotTaken stages name limit before now o → status_of o ≡ 0 → ⊥
+not_taken_fails : (stages : List Stage) (name : List ℕ) (limit : ℕ) (before now : StoreSeen) (o : Outcome)
+    → NotTaken stages name limit before now o → status_of o ≡ 0 → ⊥
 not_taken_fails stages name limit before now (NoFile file) h e = omega arith
 not_taken_fails stages name limit before now (TooLong size) h e = omega arith
 not_taken_fails stages name limit before now ReadFault h e = omega arith
@@ -40,7 +41,8 @@ not_taken_fails stages name limit before now WriteFault h e = h
 not_taken_fails stages name limit before now (Ended status) h e = h
 not_taken_fails stages name limit before now Written h e = h
 
-written_at_0 : (out elf : List ℕ) (before now : StoreSeen) (o : Outcome) → WriteOutcome out elf before now o → status_of o ≡ 0 → now.told ≡ option_map (stored out elf) before.told
+written_at_0 : (out elf : List ℕ) (before now : StoreSeen) (o : Outcome) → WriteOutcome out elf before now o
+    → status_of o ≡ 0 → now.told ≡ option_map (stored out elf) before.told
 written_at_0 out elf before now Written h e = h.0
 written_at_0 out elf before now WriteFault h e = absurd (omega arith)
 written_at_0 out elf before now Memory h e = absurd (omega arith)
@@ -51,7 +53,8 @@ written_at_0 out elf before now (Refused refusal) h e = absurd h
 written_at_0 out elf before now ReadFault h e = absurd h
 written_at_0 out elf before now (Ended status) h e = absurd h
 
-body_written : (file out : List ℕ) (before now : StoreSeen) (o : Outcome) → BodyOutcome file out before now o → status_of o ≡ 0 → HasWritten file out before.told now.told
+body_written : (file out : List ℕ) (before now : StoreSeen) (o : Outcome) → BodyOutcome file out before now o
+    → status_of o ≡ 0 → HasWritten file out before.told now.told
 body_written file out before now o (inl h) e = absurd (not_taken_fails body_stages file body_limit before now o h.0 e)
 body_written file out before now o (inr h) e =
     record {
@@ -59,12 +62,17 @@ body_written file out before now o (inr h) e =
       read = h.built.read.content;
       elf = h.elf;
       builds = h.built.builds;
-      written = written_at_0 out h.elf h.between now o h.writes e ∙ ap (option_map (stored out h.elf)) h.built.same_files;
+      written = written_at_0 out h.elf h.between now o h.writes e ∙ ap (option_map (stored out h.elf))
+          h.built.same_files;
     }
 
-pub cause_written : (words : List (List ℕ)) (before now : StoreSeen) (streams streams' : StreamsSeen) (o : Outcome) (file out : List ℕ) → Cause words before now streams streams' o → command_of words ≡ Ok (Body file out) → status_of o ≡ 0 → HasWritten file out before.told now.told
+pub cause_written : (words : List (List ℕ)) (before now : StoreSeen) (streams streams' : StreamsSeen) (o : Outcome)
+    (file out : List ℕ)
+    → Cause words before now streams streams' o → command_of words ≡ Ok (Body file out) → status_of o ≡ 0
+    → HasWritten file out before.told now.told
 cause_written words before now streams streams' o file out cause command zero =
-    let its_cause : CommandOutcome (Ok (Body file out)) before now streams streams' o = subst (λ c. CommandOutcome c before now streams streams' o) command cause in
+    let its_cause : CommandOutcome (Ok (Body file out)) before now streams streams' o = subst
+    (λ c. CommandOutcome c before now streams streams' o) command cause in
     body_written file out before now o its_cause.0 zero
 
 -- ---- completeness
@@ -73,15 +81,25 @@ done_or_memory : (o done : Outcome) → (o ≡ done) ⊎ (o ≡ Memory) → (sta
 done_or_memory o done (inl e) = inl (ap status_of e)
 done_or_memory o done (inr e) = inr (ap status_of e)
 
-pub body_complete : (words : List (List ℕ)) (before now : StoreSeen) (streams streams' : StreamsSeen) (o : Outcome) (file out : List ℕ) → Cause words before now streams streams' o → command_of words ≡ Ok (Body file out) → HasBare file before.told → NoneCounted before now → (status_of o ≡ 0) ⊎ (status_of o ≡ 75)
+pub body_complete : (words : List (List ℕ)) (before now : StoreSeen) (streams streams' : StreamsSeen) (o : Outcome)
+    (file out : List ℕ)
+    → Cause words before now streams streams' o → command_of words ≡ Ok (Body file out) → HasBare file before.told
+    → NoneCounted before now → (status_of o ≡ 0) ⊎ (status_of o ≡ 75)
 body_complete words before now streams streams' o file out cause command bare none =
-    let its_cause : CommandOutcome (Ok (Body file out)) before now streams streams' o = subst (λ c. CommandOutcome c before now streams streams' o) command cause in
+    let its_cause : CommandOutcome (Ok (Body file out)) before now streams streams' o = subst
+    (λ c. CommandOutcome c before now streams streams' o) command cause in
     done_or_memory o Written (body_done file out before now o bare none its_cause.0)
 
-pub run_complete : (words : List (List ℕ)) (before now : StoreSeen) (streams streams' : StreamsSeen) (o : Outcome) (elf : List ℕ) (limit : ℕ) (count : Bool) (steps status : ℕ) → Cause words before now streams streams' o → command_of words ≡ Ok (Run elf limit count) → steps ≤ limit → HasProgram elf steps status before.told streams.outside.rest → NoneCounted before now → NoneOfStreams streams streams' → (status_of o ≡ status) ⊎ (status_of o ≡ 75)
+pub run_complete : (words : List (List ℕ)) (before now : StoreSeen) (streams streams' : StreamsSeen) (o : Outcome)
+    (elf : List ℕ) (limit : ℕ) (count : Bool) (steps status : ℕ)
+    → Cause words before now streams streams' o → command_of words ≡ Ok (Run elf limit count) → steps ≤ limit
+    → HasProgram elf steps status before.told streams.outside.rest → NoneCounted before now
+    → NoneOfStreams streams streams' → (status_of o ≡ status) ⊎ (status_of o ≡ 75)
 run_complete words before now streams streams' o elf limit count steps status cause command within has none calm =
-    let its_cause : CommandOutcome (Ok (Run elf limit count)) before now streams streams' o = subst (λ c. CommandOutcome c before now streams streams' o) command cause in
-    done_or_memory o (Ended status) (run_done elf limit count steps status before now streams streams' o within has none calm its_cause.0)
+    let its_cause : CommandOutcome (Ok (Run elf limit count)) before now streams streams' o = subst
+    (λ c. CommandOutcome c before now streams streams' o) command cause in
+    done_or_memory o (Ended status)
+    (run_done elf limit count steps status before now streams streams' o within has none calm its_cause.0)
 
 -- ---- the fields of refusals
 
@@ -94,11 +112,14 @@ stage_formed Operations file place = tt
 stage_formed Verification file place = tt
 stage_formed Load file place = tt
 
-not_taken_formed : (stages : List Stage) (name : List ℕ) (limit : ℕ) (before now : StoreSeen) (refusal : Refusal) → NotTaken stages name limit before now (Refused refusal) → IsFormed refusal
+not_taken_formed : (stages : List Stage) (name : List ℕ) (limit : ℕ) (before now : StoreSeen) (refusal : Refusal)
+    → NotTaken stages name limit before now (Refused refusal) → IsFormed refusal
 not_taken_formed stages name limit before now refusal h =
     subst IsFormed (sym h.2.told) (stage_formed h.2.stage name h.2.place)
 
-command_formed : (asked : Result Command ℕ) (before now : StoreSeen) (streams streams' : StreamsSeen) (refusal : Refusal) → CommandOutcome asked before now streams streams' (Refused refusal) → IsFormed refusal
+command_formed : (asked : Result Command ℕ) (before now : StoreSeen) (streams streams' : StreamsSeen)
+    (refusal : Refusal)
+    → CommandOutcome asked before now streams streams' (Refused refusal) → IsFormed refusal
 command_formed (Err index) before now streams streams' refusal h = absurd (by h.0)
   where
     by : (Refused refusal ≡ Usage index) ⊎ (Refused refusal ≡ Memory) → ⊥
@@ -111,7 +132,8 @@ command_formed (Ok (Body file out)) before now streams streams' refusal h = by h
     by (inr n) = absurd n.writes
 command_formed (Ok (Run elf limit count)) before now streams streams' refusal h = by h.0
   where
-    machine_formed : (machine : MachineState) → MachineOutcome machine limit count streams streams' (Refused refusal) → IsFormed refusal
+    machine_formed : (machine : MachineState) → MachineOutcome machine limit count streams streams' (Refused refusal)
+        → IsFormed refusal
     machine_formed machine (inl n) = subst IsFormed (sym n.0) tt
     machine_formed machine (inr n) = subst IsFormed (sym n.1) tt
 
@@ -119,5 +141,8 @@ command_formed (Ok (Run elf limit count)) before now streams streams' refusal h 
     by (inl n) = not_taken_formed elf_stages elf elf_limit before now refusal n.0
     by (inr n) = machine_formed n.0 n.2
 
-pub formed_refusals : (words : List (List ℕ)) (before now : StoreSeen) (streams between : StreamsSeen) (refusal : Refusal) → Cause words before now streams between (Refused refusal) → IsFormed refusal
-formed_refusals words before now streams between refusal h = command_formed (command_of words) before now streams between refusal h
+pub formed_refusals : (words : List (List ℕ)) (before now : StoreSeen) (streams between : StreamsSeen)
+    (refusal : Refusal)
+    → Cause words before now streams between (Refused refusal) → IsFormed refusal
+formed_refusals words before now streams between refusal h = command_formed (command_of words) before now streams
+    between refusal h

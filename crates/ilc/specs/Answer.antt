@@ -24,7 +24,8 @@ abbrev pub Reports : List ℕ → StreamsSeen → StreamsSeen → Type 0
 Reports line before now = Prints line before now ⊎ BreaksOff line before now
 
 -- There is an outcome that has come for its cause, whose status is the answer and whose line was printed.
-pub record Answers (words : List (List ℕ)) (before now : StoreSeen) (streams streams' : StreamsSeen) (status : ℕ) : Type 0 where
+pub record Answers (words : List (List ℕ)) (before now : StoreSeen) (streams streams' : StreamsSeen) (status : ℕ) :
+    Type 0 where
   pub outcome : Outcome
   pub between : StreamsSeen
   pub its_status : status ≡ status_of outcome
@@ -83,12 +84,13 @@ pub record TellsAll (told : Option Store) (rest : Option (List ℕ)) : Type 0 wh
   pub left : rest ≡ Some input
 
 -- An outcome of these words that has its cause from here on, where no fault was counted.
-pub record ComesTo (words : List (List ℕ)) (before : StoreSeen) (streams : StreamsSeen) (outcome : Outcome) : Type 0 where
-  pub now : StoreSeen
-  pub streams' : StreamsSeen
-  pub cause : Cause words before now streams streams' outcome
-  pub store : NoneCounted before now
-  pub others : NoneOfStreams streams streams'
+pub record ComesTo (words : List (List ℕ)) (before : StoreSeen) (streams : StreamsSeen) (outcome : Outcome) : Type 0
+  where
+    pub now : StoreSeen
+    pub streams' : StreamsSeen
+    pub cause : Cause words before now streams streams' outcome
+    pub store : NoneCounted before now
+    pub others : NoneOfStreams streams streams'
 
 -- one of the two is want of memory, or they are one
 abbrev pub AreOne : Outcome → Outcome → Type 0

@@ -24,4 +24,5 @@ ReadGives FileMemory name outcome = outcome ≡ Memory
 abbrev pub IsRefusedBy : List ℕ → List ℕ → BuildFault → Outcome → Type 0
 IsRefusedBy bytes file fault outcome =
     NotBare bytes fault
-    → (outcome ≡ Memory) ⊎ ((refusal : Refusal) × (outcome ≡ Refused refusal) × IsRefused body_stages file bytes refusal)
+    → (outcome ≡ Memory) ⊎ ((refusal : Refusal) × (outcome ≡ Refused refusal) × IsRefused body_stages file bytes
+    refusal)

@@ -2,7 +2,9 @@ ghost use Rattle.std.specs.Prelude.{◌≡◌, ◌<◌, ◌^◌, length, IfOk, I
 ghost use Rattle.ilc.specs.Grammar.{number_of as number_of_word};
 ghost use Rattle.ilc.specs.Words.{command_of, command_from as command_of_items, first_name as first_name_of, argument_of as argument_in, behind_command, default_steps, Reads};
 
-use crate::grammar::{CommandName, CommandOption, Item, MOST_STEPS, command_named, is_given, number_of};
+use crate::grammar::{
+    CommandName, CommandOption, Item, MOST_STEPS, command_named, is_given, number_of,
+};
 use crate::reading::{WordsFault, copied, read_items};
 use num_core::{Memory, Text};
 use std::alloc::Global;

@@ -1,7 +1,7 @@
 ghost use Rattle.std.specs.Prelude.{◌≡◌, ℕ, List, ◌<◌, ◌≤◌, length, IfOk, IfErr};
 ghost use Rattle.ilc.specs.Seen.{store_seen, streams_seen};
 ghost use Rattle.ilc.specs.Cause.{NotTaken, IsRead, IsBuilt, WriteOutcome, BodyOutcome, IsLoaded, MachineOutcome, Cause};
-ghost use Rattle.ilc.specs.Stages.{Stage, body_stages, elf_stages, fault_at, body_method};
+ghost use Rattle.ilc.specs.Stages.{Stage, body_stages, elf_stages, fault_at, body_method as body_method_text};
 ghost use Rattle.ilc.specs.Reading.{IsRefusedBy, IsOrMemory, ReadGives};
 ghost use Rattle.ilc.specs.declared.outcome.Outcome.TheVariants.{Refused};
 
@@ -23,9 +23,6 @@ const BODY_LIMIT: u64 = 16_777_216;
 /// The most bytes of an executable file.
 const ELF_LIMIT: u64 = 1_073_741_824;
 
-/// The one method of a bare body.
-const BODY_METHOD: &[u8] = b"[body]Body::Main()->System.Int32";
-
 /// Does what the words say.
 pub(crate) fn perform<F: Files, I: Source, O: Sink, E: Sink>(
     alloc: Global,
@@ -36,10 +33,14 @@ pub(crate) fn perform<F: Files, I: Source, O: Sink, E: Sink>(
     err: &mut E,
 ) -> Outcome
     ensures { Cause words.now
-        (store_seen (F.told files.old) (F.asked files.old) (F.calls files.old) (F.read_faults files.old) (F.write_faults files.old))
-        (store_seen (F.told files.new) (F.asked files.new) (F.calls files.new) (F.read_faults files.new) (F.write_faults files.new))
-        (streams_seen (I.rest input.old) (O.written out.old) (E.written err.old) (I.faults input.old) (O.faults out.old) (E.faults err.old))
-        (streams_seen (I.rest input.new) (O.written out.new) (E.written err.new) (I.faults input.new) (O.faults out.new) (E.faults err.new))
+        (store_seen (F.told files.old) (F.asked files.old) (F.calls files.old) (F.read_faults files.old)
+        (F.write_faults files.old))
+        (store_seen (F.told files.new) (F.asked files.new) (F.calls files.new) (F.read_faults files.new)
+        (F.write_faults files.new))
+        (streams_seen (I.rest input.old) (O.written out.old) (E.written err.old) (I.faults input.old)
+        (O.faults out.old) (E.faults err.old))
+        (streams_seen (I.rest input.new) (O.written out.new) (E.written err.new) (I.faults input.new)
+        (O.faults out.new) (E.faults err.new))
         result }
 {
     match parse_command(alloc, words) {
@@ -56,8 +57,10 @@ pub(crate) fn perform<F: Files, I: Source, O: Sink, E: Sink>(
 /// Builds the body in a file, and writes the executable to another.
 fn body<F: Files>(alloc: Global, files: &mut F, file: &Text, out: &Text) -> Outcome
     ensures { BodyOutcome file.now out.now
-        (store_seen (F.told files.old) (F.asked files.old) (F.calls files.old) (F.read_faults files.old) (F.write_faults files.old))
-        (store_seen (F.told files.new) (F.asked files.new) (F.calls files.new) (F.read_faults files.new) (F.write_faults files.new))
+        (store_seen (F.told files.old) (F.asked files.old) (F.calls files.old) (F.read_faults files.old)
+        (F.write_faults files.old))
+        (store_seen (F.told files.new) (F.asked files.new) (F.calls files.new) (F.read_faults files.new)
+        (F.write_faults files.new))
         result }
 {
     match build(alloc, files, file) {
@@ -69,11 +72,15 @@ fn body<F: Files>(alloc: Global, files: &mut F, file: &Text, out: &Text) -> Outc
 /// Builds the body in a file.
 fn build<F: Files>(alloc: Global, files: &mut F, file: &Text) -> Result<Bytes, Outcome>
     ensures built { IfOk result (λ elf. IsBuilt file.now elf
-        (store_seen (F.told files.old) (F.asked files.old) (F.calls files.old) (F.read_faults files.old) (F.write_faults files.old))
-        (store_seen (F.told files.new) (F.asked files.new) (F.calls files.new) (F.read_faults files.new) (F.write_faults files.new))) }
+        (store_seen (F.told files.old) (F.asked files.old) (F.calls files.old) (F.read_faults files.old)
+        (F.write_faults files.old))
+        (store_seen (F.told files.new) (F.asked files.new) (F.calls files.new) (F.read_faults files.new)
+        (F.write_faults files.new))) }
     ensures refused { IfErr result (NotTaken body_stages file.now BODY_LIMIT
-        (store_seen (F.told files.old) (F.asked files.old) (F.calls files.old) (F.read_faults files.old) (F.write_faults files.old))
-        (store_seen (F.told files.new) (F.asked files.new) (F.calls files.new) (F.read_faults files.new) (F.write_faults files.new))) }
+        (store_seen (F.told files.old) (F.asked files.old) (F.calls files.old) (F.read_faults files.old)
+        (F.write_faults files.old))
+        (store_seen (F.told files.new) (F.asked files.new) (F.calls files.new) (F.read_faults files.new)
+        (F.write_faults files.new))) }
     ensures same_files { F.told files.new ≡ F.told files.old }
 {
     let bytes = match read(alloc, files, file, BODY_LIMIT) {
@@ -89,11 +96,15 @@ fn build<F: Files>(alloc: Global, files: &mut F, file: &Text) -> Result<Bytes, O
 /// Loads an executable file.
 fn load<F: Files>(alloc: Global, files: &mut F, elf: &Text) -> Result<Machine, Outcome>
     ensures loaded { IfOk result (λ machine. IsLoaded elf.now machine
-        (store_seen (F.told files.old) (F.asked files.old) (F.calls files.old) (F.read_faults files.old) (F.write_faults files.old))
-        (store_seen (F.told files.new) (F.asked files.new) (F.calls files.new) (F.read_faults files.new) (F.write_faults files.new))) }
+        (store_seen (F.told files.old) (F.asked files.old) (F.calls files.old) (F.read_faults files.old)
+        (F.write_faults files.old))
+        (store_seen (F.told files.new) (F.asked files.new) (F.calls files.new) (F.read_faults files.new)
+        (F.write_faults files.new))) }
     ensures refused { IfErr result (NotTaken elf_stages elf.now ELF_LIMIT
-        (store_seen (F.told files.old) (F.asked files.old) (F.calls files.old) (F.read_faults files.old) (F.write_faults files.old))
-        (store_seen (F.told files.new) (F.asked files.new) (F.calls files.new) (F.read_faults files.new) (F.write_faults files.new))) }
+        (store_seen (F.told files.old) (F.asked files.old) (F.calls files.old) (F.read_faults files.old)
+        (F.write_faults files.old))
+        (store_seen (F.told files.new) (F.asked files.new) (F.calls files.new) (F.read_faults files.new)
+        (F.write_faults files.new))) }
     ensures same_files { F.told files.new ≡ F.told files.old }
 {
     let bytes = match read(alloc, files, elf, ELF_LIMIT) {
@@ -108,18 +119,17 @@ fn load<F: Files>(alloc: Global, files: &mut F, elf: &Text) -> Result<Machine, O
 }
 
 /// Reads a whole file.
-fn read<F: Files>(
-    alloc: Global,
-    files: &mut F,
-    name: &Text,
-    limit: u64,
-) -> Result<Bytes, Outcome>
+fn read<F: Files>(alloc: Global, files: &mut F, name: &Text, limit: u64) -> Result<Bytes, Outcome>
     ensures read { IfOk result (λ bytes. IsRead name.now limit bytes
-        (store_seen (F.told files.old) (F.asked files.old) (F.calls files.old) (F.read_faults files.old) (F.write_faults files.old))
-        (store_seen (F.told files.new) (F.asked files.new) (F.calls files.new) (F.read_faults files.new) (F.write_faults files.new))) }
+        (store_seen (F.told files.old) (F.asked files.old) (F.calls files.old) (F.read_faults files.old)
+        (F.write_faults files.old))
+        (store_seen (F.told files.new) (F.asked files.new) (F.calls files.new) (F.read_faults files.new)
+        (F.write_faults files.new))) }
     ensures not_read { (stages : List Stage) → IfErr result (NotTaken stages name.now limit
-        (store_seen (F.told files.old) (F.asked files.old) (F.calls files.old) (F.read_faults files.old) (F.write_faults files.old))
-        (store_seen (F.told files.new) (F.asked files.new) (F.calls files.new) (F.read_faults files.new) (F.write_faults files.new))) }
+        (store_seen (F.told files.old) (F.asked files.old) (F.calls files.old) (F.read_faults files.old)
+        (F.write_faults files.old))
+        (store_seen (F.told files.new) (F.asked files.new) (F.calls files.new) (F.read_faults files.new)
+        (F.write_faults files.new))) }
     ensures same_files { F.told files.new ≡ F.told files.old }
     ensures same_write_faults { F.write_faults files.new ≡ F.write_faults files.old }
 {
@@ -150,14 +160,21 @@ fn build_outcome(alloc: Global, fault: BuildFault, file: &Text) -> Outcome
 {
     match fault {
         BuildFault::BadHeader(at) => refused(alloc, Fault::BadHeader, file.bytes(), at as u64),
-        BuildFault::BadOpcode(at) => refused(alloc, Fault::BadOpcode, BODY_METHOD, at as u64),
-        BuildFault::BadTarget(at) => refused(alloc, Fault::BadTarget, BODY_METHOD, at as u64),
+        BuildFault::BadOpcode(at) => refused(alloc, Fault::BadOpcode, body_method(), at as u64),
+        BuildFault::BadTarget(at) => refused(alloc, Fault::BadTarget, body_method(), at as u64),
         BuildFault::OpcodeOutside(at) => {
-            refused(alloc, Fault::OpcodeOutside, BODY_METHOD, at as u64)
+            refused(alloc, Fault::OpcodeOutside, body_method(), at as u64)
         }
-        BuildFault::Unverified(at) => refused(alloc, Fault::Unverified, BODY_METHOD, at as u64),
+        BuildFault::Unverified(at) => refused(alloc, Fault::Unverified, body_method(), at as u64),
         BuildFault::Memory => Outcome::Memory,
     }
+}
+
+/// The one method of a bare body.
+fn body_method() -> &'static [u8]
+    ensures { result.now ≡ body_method_text }
+{
+    b"[body]Body::Main()->System.Int32"
 }
 
 /// The refusal for a fault at a place of what has this text.
@@ -176,8 +193,10 @@ fn refused(alloc: Global, fault: Fault, text: &[u8], place: u64) -> Outcome
 /// Writes an executable to a file.
 fn write<F: Files>(files: &mut F, out: &Text, elf: &[u8]) -> Outcome
     ensures outcome { WriteOutcome out.now elf.now
-        (store_seen (F.told files.old) (F.asked files.old) (F.calls files.old) (F.read_faults files.old) (F.write_faults files.old))
-        (store_seen (F.told files.new) (F.asked files.new) (F.calls files.new) (F.read_faults files.new) (F.write_faults files.new))
+        (store_seen (F.told files.old) (F.asked files.old) (F.calls files.old) (F.read_faults files.old)
+        (F.write_faults files.old))
+        (store_seen (F.told files.new) (F.asked files.new) (F.calls files.new) (F.read_faults files.new)
+        (F.write_faults files.new))
         result }
     ensures same_asked { F.asked files.new ≡ F.asked files.old }
 {
@@ -198,8 +217,10 @@ fn run<I: Source, O: Sink, E: Sink>(
     count: bool,
 ) -> Outcome
     ensures { MachineOutcome machine.old steps count
-        (streams_seen (I.rest input.old) (O.written out.old) (E.written err.old) (I.faults input.old) (O.faults out.old) (E.faults err.old))
-        (streams_seen (I.rest input.new) (O.written out.new) (E.written err.new) (I.faults input.new) (O.faults out.new) (E.faults err.new))
+        (streams_seen (I.rest input.old) (O.written out.old) (E.written err.old) (I.faults input.old)
+        (O.faults out.old) (E.faults err.old))
+        (streams_seen (I.rest input.new) (O.written out.new) (E.written err.new) (I.faults input.new)
+        (O.faults out.new) (E.faults err.new))
         result }
 {
     match machine.run(input, out, err, steps) {

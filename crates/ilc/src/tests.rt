@@ -26,7 +26,10 @@ static ENDED: [(&[u8], u8); 21] = [
     (b"\x12\x18\x17\x59\x2A", 1),
     (b"\x12\x17\x18\x59\x2A", 255),
     (b"\x1E\x00\x1D\x18\x26\x25\x5A\x2A", 49),
-    (b"\x42\x17\x17\x17\x17\x17\x17\x17\x17\x58\x58\x58\x58\x58\x58\x58\x2A", 8),
+    (
+        b"\x42\x17\x17\x17\x17\x17\x17\x17\x17\x58\x58\x58\x58\x58\x58\x58\x2A",
+        8,
+    ),
     (b"\x26\x17\x2D\x03\x1F\x0A\x2A\x1F\x14\x2A", 20),
     (b"\x26\x16\x2D\x03\x1F\x0A\x2A\x1F\x14\x2A", 10),
     (b"\x32\x17\x3A\x03\x00\x00\x00\x1F\x0A\x2A\x1F\x14\x2A", 20),
@@ -34,7 +37,10 @@ static ENDED: [(&[u8], u8); 21] = [
     (b"\x12\x17\x2A\x14\x2A", 1),
     (b"\x0E\x17\x2A\x00", 1),
     (b"\x2E\x20\x00\x00\x00\x80\x2D\x02\x16\x2A\x17\x2A", 1),
-    (b"\x36\x20\x00\x00\x00\x80\x25\x58\x2D\x02\x16\x2A\x17\x2A", 0),
+    (
+        b"\x36\x20\x00\x00\x00\x80\x25\x58\x2D\x02\x16\x2A\x17\x2A",
+        0,
+    ),
     (b"\x2A\x17\x25\x58\x25\x1F\x40\x59\x2D\xF8\x2A", 64),
 ];
 
@@ -44,28 +50,116 @@ static REFUSED: [(&[u8], u8, &str); 25] = [
     (b"", 65, "ilc: 9 BadHeader F 0\n"),
     (b"\x0E\x1F\x2A", 65, "ilc: 9 BadHeader F 3\n"),
     (b"\x0E\x1F\x2A\x2A\x00", 65, "ilc: 9 BadHeader F 4\n"),
-    (b"\x0A\x24\x2A", 65, "ilc: 10 BadOpcode [body]Body::Main()->System.Int32 0\n"),
-    (b"\x0E\x17\x20\x2A", 65, "ilc: 10 BadOpcode [body]Body::Main()->System.Int32 1\n"),
-    (b"\x06\xFE", 65, "ilc: 10 BadOpcode [body]Body::Main()->System.Int32 0\n"),
-    (b"\x12\x2B\x05\x24\x2A", 65, "ilc: 10 BadOpcode [body]Body::Main()->System.Int32 2\n"),
-    (b"\x0A\x2B\x01", 65, "ilc: 11 BadTarget [body]Body::Main()->System.Int32 0\n"),
-    (b"\x12\x2B\x01\x1F\x2A", 65, "ilc: 11 BadTarget [body]Body::Main()->System.Int32 0\n"),
-    (b"\x12\x17\x2A\x2B\x05", 65, "ilc: 11 BadTarget [body]Body::Main()->System.Int32 2\n"),
-    (b"\x02", 65, "ilc: 11 BadTarget [body]Body::Main()->System.Int32 0\n"),
-    (b"\x0A\x1F\x2A", 65, "ilc: 11 BadTarget [body]Body::Main()->System.Int32 0\n"),
-    (b"\x0E\x17\x2D\xFD", 65, "ilc: 11 BadTarget [body]Body::Main()->System.Int32 1\n"),
-    (b"\x0A\x14\x00", 65, "ilc: 11 BadTarget [body]Body::Main()->System.Int32 1\n"),
-    (b"\x0A\x14\x2A", 69, "ilc: 24 OpcodeOutside [body]Body::Main()->System.Int32 0\n"),
-    (b"\x0E\x17\x0A\x2A", 69, "ilc: 24 OpcodeOutside [body]Body::Main()->System.Int32 1\n"),
-    (b"\x16\x2B\x01\x2A\x14\x2A", 69, "ilc: 24 OpcodeOutside [body]Body::Main()->System.Int32 3\n"),
-    (b"\x12\x26\x14\x26\x2A", 69, "ilc: 24 OpcodeOutside [body]Body::Main()->System.Int32 1\n"),
-    (b"\x06\x2A", 70, "ilc: 20 Unverified [body]Body::Main()->System.Int32 0\n"),
-    (b"\x0E\x17\x58\x2A", 70, "ilc: 20 Unverified [body]Body::Main()->System.Int32 1\n"),
-    (b"\x0E\x17\x17\x2A", 70, "ilc: 20 Unverified [body]Body::Main()->System.Int32 2\n"),
-    (b"\x4A\x17\x17\x17\x17\x17\x17\x17\x17\x17\x58\x58\x58\x58\x58\x58\x58\x58\x2A", 70, "ilc: 20 Unverified [body]Body::Main()->System.Int32 9\n"),
-    (b"\x0E\x2D\x00\x2A", 70, "ilc: 20 Unverified [body]Body::Main()->System.Int32 0\n"),
-    (b"\x1A\x17\x2D\x01\x17\x17\x2A", 70, "ilc: 20 Unverified [body]Body::Main()->System.Int32 4\n"),
-    (b"\x0E\x17\x2B\xFD", 70, "ilc: 20 Unverified [body]Body::Main()->System.Int32 0\n"),
+    (
+        b"\x0A\x24\x2A",
+        65,
+        "ilc: 10 BadOpcode [body]Body::Main()->System.Int32 0\n",
+    ),
+    (
+        b"\x0E\x17\x20\x2A",
+        65,
+        "ilc: 10 BadOpcode [body]Body::Main()->System.Int32 1\n",
+    ),
+    (
+        b"\x06\xFE",
+        65,
+        "ilc: 10 BadOpcode [body]Body::Main()->System.Int32 0\n",
+    ),
+    (
+        b"\x12\x2B\x05\x24\x2A",
+        65,
+        "ilc: 10 BadOpcode [body]Body::Main()->System.Int32 2\n",
+    ),
+    (
+        b"\x0A\x2B\x01",
+        65,
+        "ilc: 11 BadTarget [body]Body::Main()->System.Int32 0\n",
+    ),
+    (
+        b"\x12\x2B\x01\x1F\x2A",
+        65,
+        "ilc: 11 BadTarget [body]Body::Main()->System.Int32 0\n",
+    ),
+    (
+        b"\x12\x17\x2A\x2B\x05",
+        65,
+        "ilc: 11 BadTarget [body]Body::Main()->System.Int32 2\n",
+    ),
+    (
+        b"\x02",
+        65,
+        "ilc: 11 BadTarget [body]Body::Main()->System.Int32 0\n",
+    ),
+    (
+        b"\x0A\x1F\x2A",
+        65,
+        "ilc: 11 BadTarget [body]Body::Main()->System.Int32 0\n",
+    ),
+    (
+        b"\x0E\x17\x2D\xFD",
+        65,
+        "ilc: 11 BadTarget [body]Body::Main()->System.Int32 1\n",
+    ),
+    (
+        b"\x0A\x14\x00",
+        65,
+        "ilc: 11 BadTarget [body]Body::Main()->System.Int32 1\n",
+    ),
+    (
+        b"\x0A\x14\x2A",
+        69,
+        "ilc: 24 OpcodeOutside [body]Body::Main()->System.Int32 0\n",
+    ),
+    (
+        b"\x0E\x17\x0A\x2A",
+        69,
+        "ilc: 24 OpcodeOutside [body]Body::Main()->System.Int32 1\n",
+    ),
+    (
+        b"\x16\x2B\x01\x2A\x14\x2A",
+        69,
+        "ilc: 24 OpcodeOutside [body]Body::Main()->System.Int32 3\n",
+    ),
+    (
+        b"\x12\x26\x14\x26\x2A",
+        69,
+        "ilc: 24 OpcodeOutside [body]Body::Main()->System.Int32 1\n",
+    ),
+    (
+        b"\x06\x2A",
+        70,
+        "ilc: 20 Unverified [body]Body::Main()->System.Int32 0\n",
+    ),
+    (
+        b"\x0E\x17\x58\x2A",
+        70,
+        "ilc: 20 Unverified [body]Body::Main()->System.Int32 1\n",
+    ),
+    (
+        b"\x0E\x17\x17\x2A",
+        70,
+        "ilc: 20 Unverified [body]Body::Main()->System.Int32 2\n",
+    ),
+    (
+        b"\x4A\x17\x17\x17\x17\x17\x17\x17\x17\x17\x58\x58\x58\x58\x58\x58\x58\x58\x2A",
+        70,
+        "ilc: 20 Unverified [body]Body::Main()->System.Int32 9\n",
+    ),
+    (
+        b"\x0E\x2D\x00\x2A",
+        70,
+        "ilc: 20 Unverified [body]Body::Main()->System.Int32 0\n",
+    ),
+    (
+        b"\x1A\x17\x2D\x01\x17\x17\x2A",
+        70,
+        "ilc: 20 Unverified [body]Body::Main()->System.Int32 4\n",
+    ),
+    (
+        b"\x0E\x17\x2B\xFD",
+        70,
+        "ilc: 20 Unverified [body]Body::Main()->System.Int32 0\n",
+    ),
 ];
 
 /// Words, and the index of the first that is wrong or missing.
@@ -202,13 +296,12 @@ fn ended_bodies(rt: HostRuntime) -> Result<(), Fail> {
 }
 
 /// Each of the bodies is refused so.
-fn all_refused(
-    rt: &impl Abort,
-    alloc: Global,
-    cases: &[(&[u8], u8, &str)],
-) -> Result<(), Fail> {
+fn all_refused(rt: &impl Abort, alloc: Global, cases: &[(&[u8], u8, &str)]) -> Result<(), Fail> {
     for (body, status, line) in cases {
-        assert!(rt; refuses(alloc, body, "body F -o OUT", *status, line)?, "{line}");
+        assert!(rt;
+            refuses(alloc, body, "body F -o OUT", *status, line)?,
+            "{line}"
+        );
     }
     Ok(())
 }

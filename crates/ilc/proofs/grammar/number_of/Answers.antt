@@ -32,7 +32,7 @@ returns-else-number-most-clause-number c =
     (λ small same.
     elim c.else-number-most.branch [
       | else-number-most-via-then-number-most+else-eq w ↦
-        other_bytes _ _ c.args.word.now _ w.eq.result refl w.decimal.ensures w.eq.ensures w.if-eq.false same
+          other_bytes _ _ c.args.word.now _ w.eq.result refl w.decimal.ensures w.eq.ensures w.if-eq.false same
       | else-number-most-via-else-number-most w ↦ omega (arith, w.if-number-most.false)
     ]))
 

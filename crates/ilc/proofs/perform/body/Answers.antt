@@ -6,12 +6,15 @@ use Rattle.ilc.proofs.perform.body.Goals as goal
 pub returns-in-Ok : goal.returns-in-Ok
 returns-in-Ok g c =
     let files = g.F.Files in
-    let between : StoreSeen = store_seen (files.told c.build.new.files) (files.asked c.build.new.files) (files.calls c.build.new.files) (files.read_faults c.build.new.files) (files.write_faults c.build.new.files) in
-    let now : StoreSeen = store_seen (files.told c.write.new.files) (files.asked c.write.new.files) (files.calls c.write.new.files) (files.read_faults c.write.new.files) (files.write_faults c.write.new.files) in
+    let between : StoreSeen = store_seen (files.told c.build.new.files) (files.asked c.build.new.files)
+    (files.calls c.build.new.files) (files.read_faults c.build.new.files) (files.write_faults c.build.new.files) in
+    let now : StoreSeen = store_seen (files.told c.write.new.files) (files.asked c.write.new.files)
+    (files.calls c.write.new.files) (files.read_faults c.write.new.files) (files.write_faults c.write.new.files) in
     inr (record {
       elf = c.in-Ok.elf;
       between = between;
       built = c.in-Ok.ensures.built;
-      writes = subst (λ elf. WriteOutcome c.args.out.now elf between now c.write.result) c.as_slice.ensures c.write.ensures.outcome;
+      writes = subst (λ elf. WriteOutcome c.args.out.now elf between now c.write.result) c.as_slice.ensures
+          c.write.ensures.outcome;
       same_asked = c.write.ensures.same_asked;
     })

@@ -20,19 +20,25 @@ returns-in-Ok-load_elf-clause-loaded g c =
 pub returns-in-Err-BadElf-clause-refused : goal.returns-in-Err-BadElf-clause-refused
 returns-in-Err-BadElf-clause-refused g c =
     let files = g.F.Files in
-    let before : StoreSeen = store_seen (files.told c.args.files.now) (files.asked c.args.files.now) (files.calls c.args.files.now) (files.read_faults c.args.files.now) (files.write_faults c.args.files.now) in
-    let now : StoreSeen = store_seen (files.told c.read.new.files) (files.asked c.read.new.files) (files.calls c.read.new.files) (files.read_faults c.read.new.files) (files.write_faults c.read.new.files) in
+    let before : StoreSeen = store_seen (files.told c.args.files.now) (files.asked c.args.files.now)
+    (files.calls c.args.files.now) (files.read_faults c.args.files.now) (files.write_faults c.args.files.now) in
+    let now : StoreSeen = store_seen (files.told c.read.new.files) (files.asked c.read.new.files)
+    (files.calls c.read.new.files) (files.read_faults c.read.new.files) (files.write_faults c.read.new.files) in
     let bad : loaded c.in-Ok.bytes ≡ Err c.in-Err-BadElf.place =
     ap loaded (sym c.as_slice.ensures)
-    ∙ subst (λ fault. Gives (Err fault) (loaded c.as_slice.result.now)) c.in-Err-BadElf.field-0-is c.in-Err-BadElf.ensures.exact in
+    ∙ subst (λ fault. Gives (Err fault) (loaded c.as_slice.result.now)) c.in-Err-BadElf.field-0-is
+    c.in-Err-BadElf.ensures.exact in
     refused_or_memory elf_stages c.args.elf.now elf_limit c.in-Ok.bytes before now c.refused.result c.in-Ok.ensures.read
     (told_at elf_stages c.args.elf.now c.in-Ok.bytes Load c.in-Err-BadElf.place c.refused.result
     (first_load c.in-Ok.bytes c.in-Err-BadElf.place bad)
-    (subst (λ text. IsOrMemory (Refused (fault_at BadElf text c.in-Err-BadElf.place)) c.refused.result) c.bytes.ensures.bytes c.refused.ensures))
+    (subst (λ text. IsOrMemory (Refused (fault_at BadElf text c.in-Err-BadElf.place)) c.refused.result)
+    c.bytes.ensures.bytes c.refused.ensures))
 
 pub returns-in-Err-Memory-clause-refused : goal.returns-in-Err-Memory-clause-refused
 returns-in-Err-Memory-clause-refused g c =
     let files = g.F.Files in
-    let before : StoreSeen = store_seen (files.told c.args.files.now) (files.asked c.args.files.now) (files.calls c.args.files.now) (files.read_faults c.args.files.now) (files.write_faults c.args.files.now) in
-    let now : StoreSeen = store_seen (files.told c.read.new.files) (files.asked c.read.new.files) (files.calls c.read.new.files) (files.read_faults c.read.new.files) (files.write_faults c.read.new.files) in
+    let before : StoreSeen = store_seen (files.told c.args.files.now) (files.asked c.args.files.now)
+    (files.calls c.args.files.now) (files.read_faults c.args.files.now) (files.write_faults c.args.files.now) in
+    let now : StoreSeen = store_seen (files.told c.read.new.files) (files.asked c.read.new.files)
+    (files.calls c.read.new.files) (files.read_faults c.read.new.files) (files.write_faults c.read.new.files) in
     tried_by c.args.elf.now elf_limit c.in-Ok.bytes before now c.in-Ok.ensures.read

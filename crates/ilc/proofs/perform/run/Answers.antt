@@ -7,7 +7,9 @@ use Rattle.ilc.proofs.perform.run.Goals as goal
 
 pub returns-in-Ok : goal.returns-in-Ok
 returns-in-Ok g c =
-    let ended : StreamsSeen = streams_seen (g.I.Source.rest c.run.new.input) (g.O.Sink.written c.run.new.out) (g.E.Sink.written c.run.new.err) (g.I.Source.faults c.run.new.input) (g.O.Sink.faults c.run.new.out) (g.E.Sink.faults c.run.new.err) in (
+    let ended : StreamsSeen = streams_seen (g.I.Source.rest c.run.new.input) (g.O.Sink.written c.run.new.out)
+    (g.E.Sink.written c.run.new.err) (g.I.Source.faults c.run.new.input) (g.O.Sink.faults c.run.new.out)
+    (g.E.Sink.faults c.run.new.err) in (
       c.in-Ok.ran.steps,
       ended,
       record {
@@ -24,7 +26,8 @@ returns-in-Ok g c =
 pub returns-in-Ok-report_count : goal.returns-in-Ok-report_count
 returns-in-Ok-report_count g c = (
   c.in-Ok.ran.steps,
-  streams_seen (g.I.Source.rest c.run.new.input) (g.O.Sink.written c.run.new.out) (g.E.Sink.written c.run.new.err) (g.I.Source.faults c.run.new.input) (g.O.Sink.faults c.run.new.out) (g.E.Sink.faults c.run.new.err),
+  streams_seen (g.I.Source.rest c.run.new.input) (g.O.Sink.written c.run.new.out) (g.E.Sink.written c.run.new.err)
+      (g.I.Source.faults c.run.new.input) (g.O.Sink.faults c.run.new.out) (g.E.Sink.faults c.run.new.err),
   record {
     within = c.in-Ok.ensures.within;
     new = c.run.new.self;
@@ -33,8 +36,10 @@ returns-in-Ok-report_count g c = (
     output_faults = c.in-Ok.ensures.output_faults (λ e. cc);
     error_faults = c.in-Ok.ensures.error_faults (λ e. cc);
   },
-  counted c.args.count c.in-Ok.ran.steps _ _ (search rules)
-      (record { rest = refl; output = refl; input_faults = refl; output_faults = refl }, c.in-Ok-report_count.ensures.printed),
+  counted c.args.count c.in-Ok.ran.steps _ _ (search rules) (
+    record { rest = refl; output = refl; input_faults = refl; output_faults = refl },
+    c.in-Ok-report_count.ensures.printed,
+  ),
 )
 
 pub returns-in-Err : goal.returns-in-Err
@@ -44,7 +49,9 @@ returns-in-Err g c =
       (
         c.in-Ok.ran.steps,
         c.in-Ok.ran.status,
-        streams_seen (g.I.Source.rest c.run.new.input) (g.O.Sink.written c.run.new.out) (g.E.Sink.written c.run.new.err) (g.I.Source.faults c.run.new.input) (g.O.Sink.faults c.run.new.out) (g.E.Sink.faults c.run.new.err),
+        streams_seen (g.I.Source.rest c.run.new.input) (g.O.Sink.written c.run.new.out)
+            (g.E.Sink.written c.run.new.err) (g.I.Source.faults c.run.new.input) (g.O.Sink.faults c.run.new.out)
+            (g.E.Sink.faults c.run.new.err),
         record {
           within = c.in-Ok.ensures.within;
           new = c.run.new.self;
@@ -53,7 +60,11 @@ returns-in-Err g c =
           output_faults = c.in-Ok.ensures.output_faults (λ e. cc);
           error_faults = c.in-Ok.ensures.error_faults (λ e. cc);
         },
-        (record { rest = refl; output = refl; input_faults = refl; output_faults = refl }, c.in-Err.ensures.broken_off, c.in-Err.ensures.failed),
+        (
+          record { rest = refl; output = refl; input_faults = refl; output_faults = refl },
+          c.in-Err.ensures.broken_off,
+          c.in-Err.ensures.failed,
+        ),
       ),
     )
 
