@@ -1,5 +1,6 @@
 -- The headers, part behind part.
-use Rattle.std.proofs.Common.{◌≡◌, ℕ, ◌+◌, List, ◌++◌, replicate, append_assoc}
+use Rattle.std.proofs.Common.{◌≡◌, ◌∙◌, ap, ℕ, ◌+◌, ◌-◌, List, ◌++◌, length, take, replicate, append_assoc, arith}
+use Rattle.std.proofs.lemmas.List.{take_all}
 use Rattle.elf_file.specs.Elf.{half, word, xword, identification, base, elf_header, load_header}
 
 pub put_elf : (old : List ℕ) (entry : ℕ)
@@ -14,3 +15,11 @@ pub put_load : (old : List ℕ) (flags offset file_size memory_size : ℕ)
     ++ xword file_size) ++ xword memory_size) ++ xword 4096 ≡ old ++ load_header flags offset file_size memory_size
 unfolding load_header
 put_load old flags offset file_size memory_size = simp append_assoc
+
+-- a list that grew by zeros alone
+pub grown : (old : List ℕ) (len count : ℕ) → len ≡ length old + count
+    → take len old ++ replicate (len - length old) 0 ≡ old ++ replicate count 0
+grown old len count is =
+    let more : len - length old ≡ count = omega arith in
+    ap (λ xs. xs ++ replicate (len - length old) 0) (take_all len old (omega arith))
+    ∙ ap (λ n. old ++ replicate n 0) more

@@ -46,7 +46,8 @@ pub(crate) fn put_zeros(bytes: &mut Bytes, count: u64) -> Result<(), Memory>
     let Some(len) = bytes.len().checked_add(count as usize) else {
         return Err(Memory);
     };
-    bytes.resize(len, 0)
+    bytes.resize(len, 0)?;
+    Ok(())
 }
 
 fn put_elf_header(file: &mut Bytes, entry: u64) -> Result<(), Memory>

@@ -65,6 +65,8 @@ fn steps(rt: HostRuntime) -> Result<(), Fail> {
     let mut err = MemSink::new(rt.alloc(), &[])?;
     let mut m = machine(rt.alloc(), &EXIT[4..])?;
     assert_eq!(rt; m.step(&mut input, &mut out, &mut err), Ok(None));
+    // Its end is a step that can be done again.
+    assert_eq!(rt; m.step(&mut input, &mut out, &mut err), Ok(Some(0)));
     assert_eq!(rt; m.step(&mut input, &mut out, &mut err), Ok(Some(0)));
     Ok(())
 }

@@ -45,7 +45,7 @@ returns-in-Err-clause-write_fails g c = λ is.
     let named : run_fault c.in-Err.fault ≡ WriteFault = cc in
     let lt : c.loop-done.done < c.args.steps = c.loop-done-test.true in
     fault_writes c.in-Err.fault _ _ _ _ _ _ _ _ _ _ named lt
-    (λ e. asked_which _ _ _ (c.in-Err.ensures.write_fault
+    (λ e. asked_which _ _ _ _ _ (c.in-Err.ensures.write_fault
     (ap Err e))) c.loop-done.invariant.progress c.in-Err.ensures.answers
 
 pub returns-in-Err-clause-write_fault : goal.returns-in-Err-clause-write_fault
@@ -65,17 +65,20 @@ returns-clause-spent g c = λ done is.
 pub returns-in-Err-clause-read_fault : goal.returns-in-Err-clause-read_fault
 returns-in-Err-clause-read_fault g c = λ is.
     let named : run_fault c.in-Err.fault ≡ ReadFault = cc in
-    c.in-Err.ensures.read_fault (ap Err (run_read_fault c.in-Err.fault named))
+    (c.in-Err.ensures.read_fault (ap Err (run_read_fault c.in-Err.fault named))).1
     ∙ ap next_count c.loop-done.invariant.input_faults
 
 pub returns-in-Err-clause-input_faults : goal.returns-in-Err-clause-input_faults
 returns-in-Err-clause-input_faults g c = λ other.
-    c.in-Err.ensures.input_faults (λ e. other (told _ _ e)) ∙ c.loop-done.invariant.input_faults
+    let told_so : c.from.result ≡ run_fault c.in-Err.fault = c.from.ensures in
+    c.in-Err.ensures.input_faults (λ e. other (ap Err told_so ∙ told _ _ e)) ∙ c.loop-done.invariant.input_faults
 
 pub returns-in-Err-clause-output_faults : goal.returns-in-Err-clause-output_faults
 returns-in-Err-clause-output_faults g c = λ other.
-    c.in-Err.ensures.output_faults (λ e. other (told _ _ e)) ∙ c.loop-done.invariant.output_faults
+    let told_so : c.from.result ≡ run_fault c.in-Err.fault = c.from.ensures in
+    c.in-Err.ensures.output_faults (λ e. other (ap Err told_so ∙ told _ _ e)) ∙ c.loop-done.invariant.output_faults
 
 pub returns-in-Err-clause-error_faults : goal.returns-in-Err-clause-error_faults
 returns-in-Err-clause-error_faults g c = λ other.
-    c.in-Err.ensures.error_faults (λ e. other (told _ _ e)) ∙ c.loop-done.invariant.error_faults
+    let told_so : c.from.result ≡ run_fault c.in-Err.fault = c.from.ensures in
+    c.in-Err.ensures.error_faults (λ e. other (ap Err told_so ∙ told _ _ e)) ∙ c.loop-done.invariant.error_faults
