@@ -1,7 +1,8 @@
-"""The table of opcodes as the sources have it, for the checks that assemble code."""
+"""The table of opcodes as the definitions have it, for the checks that assemble code."""
 
 import re
 
+TABLE = "crates/il_code/specs/Opcodes.antt"
 SOURCE = "crates/il_code/src/opcode.rt"
 # how many bytes an operand of each form takes; one of targets takes as many as its first four say
 SIZES = {"Absent": 0, "Unsigned8": 1, "Unsigned16": 2, "Signed8": 1, "Signed32": 4, "Signed64": 8, "Token": 4,
@@ -17,23 +18,22 @@ def mnemonic(variant):
     return ".".join(words).lower() + ("." if variant in PREFIXES else "")
 
 
-def text():
-    with open(SOURCE, encoding="utf-8") as file:
-        return file.read()
+def read(file):
+    with open(file, encoding="utf-8") as it:
+        return it.read()
 
 
 def variants():
     """The names of the variants of `Op`."""
-    return re.findall(r"^    (\w+),$", re.search(r"pub enum Op \{\n(.*?)^\}", text(), re.S | re.M)[1], re.M)
+    return re.findall(r"^    (\w+),$", re.search(r"pub enum Op \{\n(.*?)^\}", read(SOURCE), re.S | re.M)[1], re.M)
 
 
 def rows():
-    """The rows of `OPCODES`: the opcode's bytes, the variant and the form of the operand; and how many are declared."""
-    table = re.search(r"pub static OPCODES: .*?; (\d+)\] = \[\n(.*?)^\];", text(), re.S | re.M)
-    found = re.findall(r"^    \(0x([0-9A-F]+), Op::(\w+), OperandForm::(\w+)\),$", table[2], re.M)
-    return [(bytes.fromhex(code), variant, form) for code, variant, form in found], int(table[1])
+    """The rows of the table: the opcode's bytes, the variant and the form of the operand."""
+    found = re.findall(r"^ *\(0x([0-9A-F]+), Op\.(\w+), (\w+)\) ∷", read(TABLE), re.M)
+    return [(bytes.fromhex(code), variant, form) for code, variant, form in found]
 
 
 def encodings():
     """Of each name in the assembler the opcode's bytes and the size of the operand."""
-    return {mnemonic(variant): (code, SIZES[form]) for code, variant, form in rows()[0]}
+    return {mnemonic(variant): (code, SIZES[form]) for code, variant, form in rows()}

@@ -14,21 +14,37 @@ less_or_same : (i j : ℕ) → i ≤ j → (i < j) ⊎ (i ≡ j)
 less_or_same i j le = grind (arith, le)
 
 -- the comparisons with an offset rise too
-comparisons_rise : (instrs : List Instr) (offset : ℕ) → AreRising instrs → IsNonDecreasingBy (λ i. ordering_index (nat_cmp i.at offset)) instrs
+comparisons_rise : (instrs : List Instr) (offset : ℕ) → AreRising instrs
+    → IsNonDecreasingBy (λ i. ordering_index (nat_cmp i.at offset)) instrs
 comparisons_rise instrs offset rising i j d le inside = elim (less_or_same i j le) [
-  | inl less ↦ let keys : (slice_index_or instrs i d).at < (slice_index_or instrs j d).at = rising i j d less inside in grind (arith, nat_tests)
-  | inr same ↦ subst (λ n. ordering_index (nat_cmp (slice_index_or instrs i d).at offset) ≤ ordering_index (nat_cmp (slice_index_or instrs n d).at offset)) same (omega arith)
+  | inl less ↦ let keys : (slice_index_or instrs i d).at < (slice_index_or instrs j d).at = rising i j d less inside in
+      grind (arith, nat_tests)
+  | inr same ↦ subst (λ n. ordering_index (nat_cmp (slice_index_or instrs i d).at offset) ≤ ordering_index
+      (nat_cmp (slice_index_or instrs n d).at offset)) same (omega arith)
 ]
 
-found_at : (instrs : List Instr) (offset n : ℕ) → n < length instrs → ((d : Instr) → (slice_index_or instrs n d).at ≡ offset) → is_boundary instrs offset ≡ true
+found_at : (instrs : List Instr) (offset n : ℕ) → n < length instrs
+    → ((d : Instr) → (slice_index_or instrs n d).at ≡ offset) → is_boundary instrs offset ≡ true
 found_at [] offset n inside here = absurd (omega (arith, inside))
-found_at (i ∷ instrs) offset n inside here = list_any_at (λ i. nat_eq i.at offset) (i ∷ instrs) n i inside (eq-eqb _ offset (here i))
+found_at (i ∷ instrs) offset n inside here =
+    list_any_at (λ i. nat_eq i.at offset) (i ∷ instrs) n i inside (eq-eqb _ offset (here i))
 
 -- what the search tells
-pub searched : (instrs : List Instr) (offset : ℕ) (r : Result ℕ ℕ) → AreRising instrs → IsSearchInRange r (length instrs) → IsBinarySearchResult (λ i. nat_cmp i.at offset) instrs r → is_ok r ≡ is_boundary instrs offset
-searched instrs offset (Ok n) rising inside equal = sym (found_at instrs offset n inside (λ d. ranked _ offset _ (sym (equal d))))
+pub searched : (instrs : List Instr) (offset : ℕ) (r : Result ℕ ℕ) → AreRising instrs
+    → IsSearchInRange r (length instrs) → IsBinarySearchResult (λ i. nat_cmp i.at offset) instrs r
+    → is_ok r ≡ is_boundary instrs offset
+searched instrs offset (Ok n) rising inside equal =
+    sym (found_at instrs offset n inside (λ d. ranked _ offset _ (sym (equal d))))
 searched instrs offset (Err n) rising inside parted =
     let split = parted (comparisons_rise instrs offset rising) in
     sym (list_any_none (λ i. nat_eq i.at offset) instrs (λ j d less.
-    let other : nat_eq (slice_index_or instrs j d).at offset ≡ false = grind (arith, nat_tests, common_steps, λ (below : j < n). ranked _ offset _ (sym (split.0 j d (omega arith) below)), λ (above : n ≤ j). ranked _ offset _ (sym (split.1 j d above less))) in
+    let other : nat_eq (slice_index_or instrs j d).at offset ≡ false =
+    grind (
+      arith,
+      nat_tests,
+      common_steps,
+      λ (below : j < n). ranked _ offset _
+          (sym (split.0 j d (omega arith) below)),
+      λ (above : n ≤ j). ranked _ offset _ (sym (split.1 j d above less)),
+    ) in
     other))

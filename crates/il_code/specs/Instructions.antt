@@ -3,17 +3,20 @@ use Rattle.std.specs.Prelude.{ℕ, zero, suc, ◌+◌, ◌*◌, ◌^◌, ℤ, po
 use Rattle.std.specs.Int.{cast_signed, int_rem_euclid, w8}
 use Rattle.std.specs.Option.{option_map}
 use Rattle.byteorder.specs.Endian.{little_number, twos_complement}
-use Rattle.il_code.specs.declared.opcode.TheConstants.{OPCODES}
 use Rattle.il_code.specs.declared.opcode.Op.{Op}
 use Rattle.il_code.specs.declared.opcode.OperandForm.{OperandForm}
 use Rattle.il_code.specs.declared.opcode.OperandForm.TheVariants.{Absent, Unsigned8, Unsigned16, Signed8, Signed32, Signed64, Token as TokenForm, Target8, Target32, Targets as TargetsForm}
 use Rattle.il_code.specs.declared.body.Instr.{Instr}
 use Rattle.il_code.specs.declared.body.Operand.{Operand}
 use Rattle.il_code.specs.declared.body.Operand.TheVariants.{Nothing, Number, Token, Target, Targets}
+use Rattle.il_code.specs.Opcodes.{opcodes}
 
--- the opcode of a number of the table, and the form of its operand
+-- the opcode of a number in a table, and the form of its operand
+abbrev pub row_in : List (ℕ × Op × OperandForm) → ℕ → Option (Op × OperandForm)
+row_in rows code = option_map (λ row. (row.1, row.2)) (find (λ row. row.0 == code) rows)
+
 unfoldable pub opcode_row : ℕ → Option (Op × OperandForm)
-opcode_row code = option_map (λ row. (row.1, row.2)) (find (λ row. row.0 == code) OPCODES)
+opcode_row code = row_in opcodes code
 
 -- The number of the opcode at the front of the bytes, and how many bytes it takes: one, or two where the first is
 -- 0xFE.
@@ -66,19 +69,22 @@ of_size size bytes operand = if nat_lt (length bytes) size then None else Some (
 
 -- the operand that so many targets are, behind their number
 abbrev pub with_targets : ℕ → ℕ → List ℕ → Option (Operand × ℕ)
-with_targets count at bytes = of_size (4 + 4 * count) bytes (Targets (targets_of (at + (4 + 4 * count)) count (drop 4 bytes)))
+with_targets count at bytes =
+    of_size (4 + 4 * count) bytes (Targets (targets_of (at + (4 + 4 * count)) count (drop 4 bytes)))
 
 -- the operand of a form at the front of the bytes, which stand at the offset `at`, and how many of them it takes, if
 -- they are there
 abbrev pub operand_of : OperandForm → ℕ → List ℕ → Option (Operand × ℕ)
-operand_of TargetsForm at bytes = if nat_lt (length bytes) 4 then None else with_targets (little_number 4 bytes) at bytes
+operand_of TargetsForm at bytes =
+    if nat_lt (length bytes) 4 then None else with_targets (little_number 4 bytes) at bytes
 operand_of form at bytes = of_size (fixed_size form) bytes (fixed_operand form at bytes)
 
 -- the instruction at an offset, of its opcode and the bytes of its operand, which stand at `behind`
 abbrev pub with_opcode : ℕ → ℕ → Option (Op × OperandForm) → List ℕ → Option Instr
 with_opcode at behind None bytes = None
 with_opcode at behind (Some row) bytes =
-    option_map (λ operand. record { at = at; next = behind + operand.1; op = row.0; operand = operand.0 }) (operand_of row.1 behind bytes)
+    option_map (λ operand. record { at = at; next = behind + operand.1; op = row.0; operand = operand.0 })
+    (operand_of row.1 behind bytes)
 
 -- the instruction at an offset, where these bytes stand, by the number of its opcode
 abbrev pub numbered : ℕ → List ℕ → Option (ℕ × ℕ) → Option Instr

@@ -1,5 +1,5 @@
 -- The code of a body as a list of instructions, and where its branches lead: ECMA-335 III.1.2 and III.1.7.2.
-use Rattle.std.specs.Prelude.{◌≡◌, ℕ, zero, suc, ◌<◌, Bool, not, ◌==◌, if◌then◌else◌, List, [], ◌∷◌, length, slice_index_or, find, Option, Some, None, Result, Ok, Err}
+use Rattle.std.specs.Prelude.{◌≡◌, ℕ, zero, suc, ◌<◌, Bool, not, ◌==◌, if◌then◌else◌, List, [], ◌∷◌, ◌++◌, length, map, slice_index_or, find, All, Option, Some, None, Result, Ok, Err}
 use Rattle.std.specs.List.{list_any, list_all}
 use Rattle.std.specs.Option.{option_map}
 use Rattle.il_code.specs.Instructions.{instruction_at}
@@ -29,9 +29,23 @@ listed_from (suc most) code at =
 abbrev pub listed : List ℕ → Result (List Instr) ℕ
 listed code = listed_from (length code) code 0
 
+-- Instructions that tile the code up to an offset: the first begins at 0, each other where the one before it ends, and
+-- the last ends at the offset. Each is the one that stands there.
+pub record AreTiles (code : List ℕ) (end : ℕ) (instrs : List Instr) : Type 0 where
+  pub joined : map (λ i. i.at) instrs ++ end ∷ [] ≡ 0 ∷ map (λ i. i.next) instrs
+  pub read : All (λ i. instruction_at code i.at ≡ Some i) instrs
+
+-- instructions tile the code up to an offset inside it, where none stands whole
+pub record IsBadOpcode (code : List ℕ) (offset : ℕ) : Type 0 where
+  pub before : List Instr
+  pub tiles : AreTiles code offset before
+  pub inside : offset < length code
+  pub none : instruction_at code offset ≡ None
+
 -- each instruction stands at a higher offset than those in front of it
 abbrev pub AreRising : List Instr → Type 0
-AreRising instrs = (i j : ℕ) (d : Instr) → i < j → j < length instrs → (slice_index_or instrs i d).at < (slice_index_or instrs j d).at
+AreRising instrs =
+    (i j : ℕ) (d : Instr) → i < j → j < length instrs → (slice_index_or instrs i d).at < (slice_index_or instrs j d).at
 
 -- the offsets that an operand leads to
 abbrev pub targets_in : Operand → List ℕ
@@ -44,15 +58,16 @@ abbrev pub is_boundary : List Instr → ℕ → Bool
 is_boundary instrs offset = list_any (λ i. i.at == offset) instrs
 
 -- the instruction leads to instructions alone
-abbrev pub leads_right : List Instr → Instr → Bool
-leads_right instrs i = list_all (is_boundary instrs) (targets_in i.operand)
+abbrev pub targets_are_boundaries : List Instr → Instr → Bool
+targets_are_boundaries instrs i = list_all (is_boundary instrs) (targets_in i.operand)
 
 -- the offset of the first instruction with a target at which none of them stands
 abbrev pub first_bad_target : List Instr → Option ℕ
-first_bad_target instrs = option_map (λ i. i.at) (find (λ i. not (leads_right instrs i)) instrs)
+first_bad_target instrs = option_map (λ i. i.at) (find (λ i. not (targets_are_boundaries instrs i)) instrs)
 
 -- why code is no list of instructions whose targets are among them
 abbrev pub NotListed : List ℕ → CodeFault → Type 0
 NotListed code (BadOpcode offset) = listed code ≡ Err offset
-NotListed code (BadTarget offset) = (instrs : List Instr) × (listed code ≡ Ok instrs) × (first_bad_target instrs ≡ Some offset)
+NotListed code (BadTarget offset) =
+    (instrs : List Instr) × (listed code ≡ Ok instrs) × (first_bad_target instrs ≡ Some offset)
 NotListed code Memory = Unit {0}

@@ -4,7 +4,6 @@ use Rattle.std.specs.Option.{option_map}
 use Rattle.il_code.specs.declared.body.Operand.{Operand}
 use Rattle.il_code.specs.declared.body.Operand.TheVariants.{Number, Target}
 use Rattle.il_code.specs.declared.opcode.Op.{Op}
-use Rattle.il_code.specs.declared.opcode.Op.TheVariants.{Nop, LdcI4M1, LdcI4_0, LdcI4_1, LdcI4_2, LdcI4_3, LdcI4_4, LdcI4_5, LdcI4_6, LdcI4_7, LdcI4_8, LdcI4S, LdcI4, Dup, Pop, Ret, BrS, BrtrueS, Br, Brtrue, Add, Sub, Mul}
 use Rattle.il_code.specs.declared.operation.Operation.{Operation}
 use Rattle.il_code.specs.declared.operation.Operation.TheVariants.{NoOperation, Constant, Duplicate, Discard, Binary, Branch, BranchIfTrue, Return}
 use Rattle.il_code.specs.declared.operation.BinaryOperation.{BinaryOperation}
@@ -25,27 +24,27 @@ target (Target offset) = Some offset
 target _ = None
 
 abbrev pub operation_of : Op → Operand → Option Operation
-operation_of Nop _ = Some NoOperation
-operation_of LdcI4M1 _ = Some (Constant (negsuc 0))
-operation_of LdcI4_0 _ = Some (Constant (pos 0))
-operation_of LdcI4_1 _ = Some (Constant (pos 1))
-operation_of LdcI4_2 _ = Some (Constant (pos 2))
-operation_of LdcI4_3 _ = Some (Constant (pos 3))
-operation_of LdcI4_4 _ = Some (Constant (pos 4))
-operation_of LdcI4_5 _ = Some (Constant (pos 5))
-operation_of LdcI4_6 _ = Some (Constant (pos 6))
-operation_of LdcI4_7 _ = Some (Constant (pos 7))
-operation_of LdcI4_8 _ = Some (Constant (pos 8))
-operation_of LdcI4S operand = constant operand
-operation_of LdcI4 operand = constant operand
-operation_of Dup _ = Some Duplicate
-operation_of Pop _ = Some Discard
-operation_of Ret _ = Some Return
-operation_of BrS operand = option_map Branch (target operand)
-operation_of Br operand = option_map Branch (target operand)
-operation_of BrtrueS operand = option_map BranchIfTrue (target operand)
-operation_of Brtrue operand = option_map BranchIfTrue (target operand)
-operation_of Add _ = Some (Binary BinaryOperation.Add)
-operation_of Sub _ = Some (Binary BinaryOperation.Subtract)
-operation_of Mul _ = Some (Binary BinaryOperation.Multiply)
+operation_of Op.Nop _ = Some NoOperation
+operation_of Op.LdcI4M1 _ = Some (Constant (negsuc 0))
+operation_of Op.LdcI4_0 _ = Some (Constant (pos 0))
+operation_of Op.LdcI4_1 _ = Some (Constant (pos 1))
+operation_of Op.LdcI4_2 _ = Some (Constant (pos 2))
+operation_of Op.LdcI4_3 _ = Some (Constant (pos 3))
+operation_of Op.LdcI4_4 _ = Some (Constant (pos 4))
+operation_of Op.LdcI4_5 _ = Some (Constant (pos 5))
+operation_of Op.LdcI4_6 _ = Some (Constant (pos 6))
+operation_of Op.LdcI4_7 _ = Some (Constant (pos 7))
+operation_of Op.LdcI4_8 _ = Some (Constant (pos 8))
+operation_of Op.LdcI4S operand = constant operand
+operation_of Op.LdcI4 operand = constant operand
+operation_of Op.Dup _ = Some Duplicate
+operation_of Op.Pop _ = Some Discard
+operation_of Op.Ret _ = Some Return
+operation_of Op.BrS operand = option_map Branch (target operand)
+operation_of Op.Br operand = option_map Branch (target operand)
+operation_of Op.BrtrueS operand = option_map BranchIfTrue (target operand)
+operation_of Op.Brtrue operand = option_map BranchIfTrue (target operand)
+operation_of Op.Add _ = Some (Binary BinaryOperation.Add)
+operation_of Op.Sub _ = Some (Binary BinaryOperation.Subtract)
+operation_of Op.Mul _ = Some (Binary BinaryOperation.Multiply)
 operation_of _ _ = None

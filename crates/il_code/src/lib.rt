@@ -2,13 +2,15 @@
 #![tactic(auto)]
 
 mod body;
+mod laws;
 mod listing;
 mod opcode;
 mod operation;
 mod read;
 
 pub use body::{Body, Clause, ClauseKind, Instr, Operand};
-pub use listing::{CodeFault, is_boundary, instructions, targets_begin};
+pub use laws::{opcodes_of_the_standard, tiling};
+pub use listing::{CodeFault, instructions, is_boundary, targets_are_boundaries};
 pub use opcode::{OPCODES, Op, OperandForm};
 pub use operation::{BinaryOperation, Operation};
 pub use read::{BodyFault, instruction_at, tiny_code};

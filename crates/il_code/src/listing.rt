@@ -1,5 +1,7 @@
-ghost use Rattle.std.specs.Prelude.{◌≡◌, ◌<◌, ◌≤◌, ◌^◌, length, Ok, None, IfOk, IfErr};
-ghost use Rattle.il_code.specs.Listing.{listed, is_boundary as is_boundary_of, targets_in, first_bad_target as first_bad_target_of, AreRising, NotListed};
+ghost use Rattle.std.specs.Prelude.{◌≡◌, ◌<◌, ◌≤◌, ◌^◌, ℕ, length, Ok, Err, None, IfOk, IfErr};
+ghost use Rattle.il_code.specs.Listing.{listed, is_boundary as is_boundary_of, targets_in};
+ghost use Rattle.il_code.specs.Listing.{first_bad_target as first_bad_target_of};
+ghost use Rattle.il_code.specs.Listing.{AreRising, AreTiles, IsBadOpcode, NotListed};
 ghost use Rattle.std.specs.List.{list_all};
 
 use crate::body::{Instr, Operand};
@@ -29,11 +31,13 @@ pub enum CodeFault {
 pub fn instructions(alloc: Global, code: &[u8]) -> Result<List<Instr>, CodeFault>
     requires { length code.now < 2 ^ 31 }
     ensures code { IfOk result (λ instrs. listed code.now ≡ Ok instrs) }
+    ensures tiles { IfOk result (AreTiles code.now (length code.now)) }
     ensures targets { IfOk result (λ instrs. first_bad_target_of instrs ≡ None) }
     ensures rising { IfOk result AreRising }
     // An instruction has one byte at least.
     ensures few { IfOk result (λ instrs. length instrs ≤ length code.now) }
     ensures refused { IfErr result (NotListed code.now) }
+    ensures bad_opcode { (offset : ℕ) → result ≡ Err (CodeFault.BadOpcode offset) → IsBadOpcode code.now offset }
 {
     let instrs = match list(alloc, code) {
         Ok(instrs) => instrs,
@@ -81,7 +85,7 @@ fn first_bad_target(instrs: &[Instr]) -> Option<u32>
     ensures { result ≡ first_bad_target_of instrs.now }
 {
     for instr in instrs {
-        if !targets_begin(instrs, &instr.operand) {
+        if !targets_are_boundaries(instrs, &instr.operand) {
             return Some(instr.at);
         }
     }
@@ -89,19 +93,19 @@ fn first_bad_target(instrs: &[Instr]) -> Option<u32>
 }
 
 /// Whether one of the instructions, whose offsets rise, stands at each target of an operand.
-pub fn targets_begin(instrs: &[Instr], operand: &Operand) -> bool
+pub fn targets_are_boundaries(instrs: &[Instr], operand: &Operand) -> bool
     requires { AreRising instrs.now }
     ensures { result ≡ list_all (is_boundary_of instrs.now) (targets_in operand.now) }
 {
     match operand {
         Operand::Target(offset) => is_boundary(instrs, *offset),
-        Operand::Targets(offsets) => all_begin(instrs, offsets.as_slice()),
+        Operand::Targets(offsets) => are_boundaries(instrs, offsets.as_slice()),
         Operand::Nothing | Operand::Number(_) | Operand::Token(_) => true,
     }
 }
 
 /// Whether an instruction stands at each of the offsets.
-fn all_begin(instrs: &[Instr], offsets: &[u32]) -> bool
+fn are_boundaries(instrs: &[Instr], offsets: &[u32]) -> bool
     requires { AreRising instrs.now }
     ensures { result ≡ list_all (is_boundary_of instrs.now) offsets.now }
 {

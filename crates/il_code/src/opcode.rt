@@ -1,5 +1,5 @@
 ghost use Rattle.std.specs.Prelude.{◌≡◌};
-ghost use Rattle.il_code.specs.Instructions.{opcode_row};
+ghost use Rattle.il_code.specs.Instructions.{opcode_row, row_in};
 
 /// An opcode (ECMA-335 III.2 to III.4). The short and the long forms of an instruction are opcodes of their own.
 #[derive(Clone, Copy, Debug, PartialEq, Eq)]
@@ -475,12 +475,17 @@ pub static OPCODES: [(u16, Op, OperandForm); 219] = [
 ];
 
 /// The opcode of a number of the table, with the form of its operand.
-#[tactic(auto, unfolding(crate::specs::Instructions::opcode_row))]
 pub(crate) fn opcode(code: u16) -> Option<(Op, OperandForm)>
     ensures { result ≡ opcode_row code }
 {
-    OPCODES
-        .iter()
+    row(&OPCODES, code)
+}
+
+/// The opcode of a number in a table, with the form of its operand.
+fn row(rows: &[(u16, Op, OperandForm)], code: u16) -> Option<(Op, OperandForm)>
+    ensures { result ≡ row_in rows.now code }
+{
+    rows.iter()
         .find(|row| row.0 == code)
         .map(|row| (row.1, row.2))
 }

@@ -1,7 +1,8 @@
 ghost use Rattle.std.specs.Prelude.{◌≡◌, ◌+◌, ◌-◌, ◌*◌, ◌<◌, ◌≤◌, ◌^◌, ◌∷◌, pos, negsuc, ◌≤ℤ◌, length, slice_index, drop, Ok, Err, IfOk, IfSome, MatchResult};
 ghost use Rattle.std.specs.Int.{cast_signed, w8};
 ghost use Rattle.byteorder.specs.Endian.{little_number, twos_complement};
-ghost use Rattle.il_code.specs.Instructions.{operand_of, fixed_size as fixed_size_of, fixed_operand as fixed_operand_of, target_of, targets_of, opcode_number as opcode_number_of, instruction_at as instruction_in};
+ghost use Rattle.il_code.specs.Instructions.{operand_of, fixed_size as fixed_size_of, fixed_operand as fixed_operand_of};
+ghost use Rattle.il_code.specs.Instructions.{target_of, targets_of, opcode_number as opcode_number_of, instruction_at as instruction_in};
 ghost use Rattle.il_code.specs.declared.opcode.OperandForm.TheVariants.{Targets as TargetsForm};
 ghost use Rattle.il_code.specs.Tiny.{tiny_body, at_offset};
 
@@ -28,7 +29,9 @@ pub enum BodyFault {
 /// The offset of `BadHeader` is the first at which a byte is wrong, missing or left over.
 pub fn tiny_code(bytes: &[u8]) -> Result<&[u8], BodyFault>
     requires { length bytes.now < 2 ^ 32 }
-    ensures code { MatchResult result (λ code. tiny_body bytes.now ≡ Ok code.now) (λ fault. at_offset fault (tiny_body bytes.now)) }
+    ensures code { MatchResult result
+        (λ code. tiny_body bytes.now ≡ Ok code.now)
+        (λ fault. at_offset fault (tiny_body bytes.now)) }
     // A tiny header has six bits for the size.
     ensures tiny { IfOk result (λ code. length code.now < 64) }
     ensures spelled { IfOk result (λ code. bytes.now ≡ (4 * length code.now + 2) ∷ code.now) }

@@ -13,8 +13,8 @@ use crate::build::BuildFault;
 use crate::depths::{Known, depths, falls_through};
 use crate::typing::can_stand;
 use il_code::{
-    Body, BodyFault, CodeFault, Instr, Operation, instructions, is_boundary, targets_begin,
-    tiny_code,
+    Body, BodyFault, CodeFault, Instr, Operation, instructions, is_boundary,
+    targets_are_boundaries, tiny_code,
 };
 use num_core::List;
 use std::alloc::Global;
@@ -167,7 +167,7 @@ fn stays_inside(instrs: &[Instr], instr: &Instr) -> bool
             | Operation::Binary(_),
         ) => is_boundary(instrs, instr.next),
         None => (!falls_through(instr.op) || is_boundary(instrs, instr.next))
-            && targets_begin(instrs, &instr.operand),
+            && targets_are_boundaries(instrs, &instr.operand),
     }
 }
 

@@ -36,7 +36,8 @@ s_format opcode funct3 rs1 rs2 imm =
 abbrev pub b_format : ℕ → ℕ → ℕ → ℕ → ℤ → ℕ
 b_format opcode funct3 rs1 rs2 imm =
     let n = twos_complement 13 imm in
-    word (field 7 opcode ∷ bits n 11 11 ∷ bits n 4 1 ∷ field 3 funct3 ∷ field 5 rs1 ∷ field 5 rs2 ∷ bits n 10 5 ∷ bits n 12 12 ∷ [])
+    word (field 7 opcode ∷ bits n 11 11 ∷ bits n 4 1 ∷ field 3 funct3 ∷ field 5 rs1 ∷ field 5 rs2
+    ∷ bits n 10 5 ∷ bits n 12 12 ∷ [])
 
 -- imm is the upper 20 bits of a number whose lower 12 are 0
 abbrev pub u_format : ℕ → ℕ → ℕ → ℕ

@@ -48,7 +48,9 @@ u_imm_of f = f.funct3 + 8 * f.rs1 + 256 * f.rs2 + 8192 * f.funct7
 
 abbrev pub j_imm_of : Parts → ℤ
 j_imm_of f =
-    signed 21 (2 * (f.rs2 / 2) + 32 * (f.funct7 % 64) + 2048 * (f.rs2 % 2) + 4096 * f.funct3 + 32768 * f.rs1 + 1048576 * (f.funct7 / 64))
+    signed 21
+    (2 * (f.rs2 / 2) + 32 * (f.funct7 % 64) + 2048 * (f.rs2 % 2) + 4096 * f.funct3 + 32768 * f.rs1
+    + 1048576 * (f.funct7 / 64))
 
 abbrev pub shamt_of : Parts → ℕ
 shamt_of f = f.rs2 + 32 * (f.funct7 % 2)

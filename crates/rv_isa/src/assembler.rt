@@ -129,7 +129,8 @@ fn assembled(
     ensures program { IfOk result (λ bytes. bytes ≡ bytes_of (filled_from places.now 0 emitted.now)) }
     ensures legal { OnOk result (AllByRecursion IsLegal (filled_from places.now 0 emitted.now)) }
     ensures reach { OnOk result (missed_from places.now 0 emitted.now ≡ None) }
-    ensures fault { (label : ℕ) → result ≡ Err (AsmFault.OutOfReach label) → missed_from places.now 0 emitted.now ≡ Some label }
+    ensures fault { (label : ℕ) → result ≡ Err (AsmFault.OutOfReach label) →
+        missed_from places.now 0 emitted.now ≡ Some label }
 {
     let mut bytes = Bytes::new(alloc);
     for (at, next) in emitted.iter().enumerate() {
@@ -157,7 +158,9 @@ fn filled(places: &[Option<usize>], at: usize, emitted: &Emitted) -> Result<Ins,
     requires given { IfSome emitted.now.label (λ label. label < length places.now) }
     requires bound { AreBound places.now }
     ensures filled { IfOk result (λ ins. ins ≡ filled_in places.now at emitted.now.ins emitted.now.label) }
-    ensures missed { MatchResult result (λ _. missed places.now at emitted.now.ins emitted.now.label ≡ None) (λ label. missed places.now at emitted.now.ins emitted.now.label ≡ Some label) }
+    ensures missed { MatchResult result
+        (λ _. missed places.now at emitted.now.ins emitted.now.label ≡ None)
+        (λ label. missed places.now at emitted.now.ins emitted.now.label ≡ Some label) }
 {
     match emitted.label {
         None => Ok(emitted.ins),

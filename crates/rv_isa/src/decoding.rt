@@ -10,12 +10,13 @@ use crate::ins::Ins;
 use crate::opcodes::instruction_of;
 use thiserror::Error;
 
-/// A word that no row of the table has.
+/// A word that no row of the table has. Those of `fence` and `ebreak` are among these.
 #[derive(Clone, Copy, Debug, PartialEq, Eq, Error)]
 #[error("illegal instruction {0:#010x}")]
 pub struct Illegal(pub u32);
 
-/// The instruction of a word.
+/// The instruction of a word. `Illegal` is each word that is none of RV64I or M, and the words of two instructions of
+/// RV64I: `fence` in its forms (`fence.tso`, `pause`), and `ebreak`.
 pub fn decode(word: u32) -> Result<Ins, Illegal>
     ensures row { IfOk result (λ ins. IsLegal ins × (word_of ins ≡ word)) }
     ensures back { (ins : Ins) → IsLegal ins → word_of ins ≡ word → result ≡ Ok ins }
@@ -39,5 +40,6 @@ pub fn words_fit()
 /// The parts of a word with 32 bits give the instruction whose word it is, and nothing where there is none.
 pub fn parts_of_words()
     ensures known { (ins : Ins) → IsLegal ins → instruction (parts_of (word_of ins)) ≡ Some ins }
-    ensures found { (word : ℕ) → word < 2 ^ 32 → IfSome (instruction (parts_of word)) (λ ins. IsLegal ins × (word_of ins ≡ word)) }
+    ensures found { (word : ℕ) → word < 2 ^ 32 →
+        IfSome (instruction (parts_of word)) (λ ins. IsLegal ins × (word_of ins ≡ word)) }
 {}

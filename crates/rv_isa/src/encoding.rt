@@ -6,7 +6,8 @@ use crate::formats::{
 };
 use crate::ins::Ins;
 
-/// The word of an instruction: the manual's "RV32/64G Instruction Set Listings", a line an instruction.
+/// The word of an instruction: the manual's "RV32/64G Instruction Set Listings", of which each line of RV32I, RV64I,
+/// RV32M and RV64M but `fence` and `ebreak` stands here.
 pub fn encode(ins: &Ins) -> u32
     ensures word { result ≡ word_of ins.now }
     ensures legal { IsLegal ins.now }

@@ -2,10 +2,10 @@ use crate::operands::{
     BranchOffset, Immediate, JumpOffset, Register, ShiftAmount, UpperImmediate, WordShiftAmount,
 };
 
-/// An instruction with its operands, named as in the manual: `rd` is written, `rs1` and `rs2` are
-/// read. A load or store goes to the address `rs1` plus `imm`; a jump or branch to its own address
-/// plus `imm`, and `Jalr` to `rs1` plus `imm`. Where nothing else is said, numbers have 64 bits; a
-/// result of 32 bits has its sign extended.
+/// An instruction of RV64I or M, but for `fence` and `ebreak`, with its operands named as in the manual: `rd` is
+/// written, `rs1` and `rs2` are read. A load or store goes to the address `rs1` plus `imm`; a jump or branch to its
+/// own address plus `imm`, and `Jalr` to `rs1` plus `imm`. Where nothing else is said, numbers have 64 bits; a result
+/// of 32 bits has its sign extended.
 #[derive(Clone, Copy, Debug, PartialEq, Eq)]
 pub enum Ins {
     /// Puts the immediate in the upper 20 of 32 bits, and extends their sign.

@@ -1,5 +1,6 @@
-//! The instructions of RV64IM and their words: the RISC-V unprivileged manual, chapters "RV32I",
-//! "RV64I" and "M", without `fence` and without control and status registers.
+//! The instructions of RV64IM and their words: the RISC-V unprivileged manual, chapters "RV32I", "RV64I" and "M".
+//! Two instructions of RV64I are left out, and their words are illegal: `fence`, which orders memory between threads
+//! or devices, of which there are none here, and `ebreak`, which calls a debugger.
 #![tactic(auto)]
 
 mod assembler;

@@ -112,40 +112,10 @@ fn every_row(rt: HostRuntime) -> Result<(), Fail> {
     Ok(())
 }
 
+/// `fence`, `ebreak`, and words that no instruction of the manual has.
 #[test]
-fn one_word_there_and_back(rt: HostRuntime) -> Result<(), Fail> {
-    let ins = Ins::Addi {
-        rd: Register::of(10),
-        rs1: Register::of(0),
-        imm: Immediate::of(42),
-    };
-    assert_eq!(rt; encode(&ins), 0x02a0_0513);
-    assert_eq!(rt; encode(&ins).to_le_bytes(), [0x13, 0x05, 0xa0, 0x02]);
-    assert_eq!(rt; decode(0x02a0_0513)?, ins);
-    Ok(())
-}
-
-#[test]
-fn words_of_no_row(rt: HostRuntime) -> Result<(), Fail> {
-    for word in [
-        0x0000_0000,
-        0xffff_ffff,
-        0x0010_0073,
-        0x0000_00f3,
-        0x0000_1067,
-        0x0000_2063,
-        0x0000_7003,
-        0x0000_4023,
-        0x0400_1013,
-        0x2000_5013,
-        0x4200_501b,
-        0x0200_101b,
-        0x4000_1033,
-        0x0400_0033,
-        0x0200_103b,
-        0x0ff0_000f,
-        0x0000_0001,
-    ] {
+fn illegal_words(rt: HostRuntime) -> Result<(), Fail> {
+    for word in [0x0ff0_000f, 0x0010_0073, 0x0000_0000, 0xffff_ffff] {
         assert_eq!(rt; decode(word), Err(Illegal(word)), "{word:#x}");
     }
     assert_eq!(rt;

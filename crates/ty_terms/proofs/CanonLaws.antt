@@ -58,24 +58,30 @@ module _ (values : List TypeId) where
   shared_each [] = refl
   shared_each (ty ∷ args) = λ i. shared-canonical ty i ∷ shared_each args i
 
-  pub canonical_named : (id : TypeId) (args : List Ty) → canonical values (Named id args) ≡ Named id (map (canonical_argument values) args)
+  pub canonical_named : (id : TypeId) (args : List Ty)
+      → canonical values (Named id args) ≡ Named id (map (canonical_argument values) args)
   canonical_named id args = fold-Named (canon_step values) id args ∙ ap (Named id) (shared_each args)
 
   abbrev IsFixed : Ty → Type 0
   IsFixed ty = form (form ty) ≡ form ty
 
-  argument_twice : (ty : Ty) → IsFixed ty → canonical_argument values (canonical_argument values ty) ≡ canonical_argument values ty
+  argument_twice : (ty : Ty) → IsFixed ty → canonical_argument values (canonical_argument values ty)
+      ≡ canonical_argument values ty
   argument_twice ty fixed = by (is_reference_type values ty) refl
     where
-      by : (is : Bool) → is_reference_type values ty ≡ is → canonical_argument values (canonical_argument values ty) ≡ canonical_argument values ty
+      by : (is : Bool) → is_reference_type values ty ≡ is
+          → canonical_argument values (canonical_argument values ty) ≡ canonical_argument values ty
       by true e =
           let here : canonical_argument values ty ≡ Canon = ap (λ is. cond is Canon (form ty)) e in
-          ap (canonical_argument values) here ∙ ap (λ is. cond is Canon (form Canon)) (ap (is_reference_layer values) out-Canon) ∙ sym here
+          ap (canonical_argument values) here ∙ ap (λ is. cond is Canon (form Canon))
+          (ap (is_reference_layer values) out-Canon) ∙ sym here
       by false e =
           let here : canonical_argument values ty ≡ form ty = ap (λ is. cond is Canon (form ty)) e in
-          ap (canonical_argument values) here ∙ ap (λ is. cond is Canon (form (form ty))) (reference-canonical ty ∙ e) ∙ fixed ∙ sym here
+          ap (canonical_argument values) here ∙ ap (λ is. cond is Canon (form (form ty))) (reference-canonical ty ∙ e)
+          ∙ fixed ∙ sym here
 
-  arguments_twice : (args : List Ty) → All IsFixed args → map (canonical_argument values) (map (canonical_argument values) args) ≡ map (canonical_argument values) args
+  arguments_twice : (args : List Ty) → All IsFixed args
+      → map (canonical_argument values) (map (canonical_argument values) args) ≡ map (canonical_argument values) args
   arguments_twice [] fixed = refl
   arguments_twice (ty ∷ args) fixed = λ i. argument_twice ty fixed.0 i ∷ arguments_twice args fixed.1 i
 
@@ -85,8 +91,10 @@ module _ (values : List TypeId) where
     named = λ id args fixed.
         ap form (canonical_named id args) ∙ canonical_named id (map (canonical_argument values) args)
         ∙ ap (Named id) (arguments_twice args fixed) ∙ sym (canonical_named id args);
-    vector = λ element fixed. ap form (canonical-Vector element) ∙ canonical-Vector (form element) ∙ ap Vector fixed ∙ sym (canonical-Vector element);
-    by_ref = λ target fixed. ap form (canonical-ByRef target) ∙ canonical-ByRef (form target) ∙ ap ByRef fixed ∙ sym (canonical-ByRef target);
+    vector = λ element fixed. ap form (canonical-Vector element) ∙ canonical-Vector (form element) ∙ ap Vector fixed
+        ∙ sym (canonical-Vector element);
+    by_ref = λ target fixed. ap form (canonical-ByRef target) ∙ canonical-ByRef (form target) ∙ ap ByRef fixed
+        ∙ sym (canonical-ByRef target);
     var = λ n. ap form (canonical-Var n);
     mvar = λ n. ap form (canonical-MVar n);
     canon = ap form canonical-Canon;

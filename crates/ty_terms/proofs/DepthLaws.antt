@@ -45,7 +45,8 @@ depth_positive = induction IsPositive (record {
 })
 
 -- an item is no deeper than the deepest, and what stands in its place past the end has depth 1
-item_depth : (types : List Ty) (n : ℕ) (d : Ty) → depth_of d ≡ 1 → depth_of (slice_index_or types n d) ≤ max 1 (depth_of_all types)
+item_depth : (types : List Ty) (n : ℕ) (d : Ty) → depth_of d ≡ 1
+    → depth_of (slice_index_or types n d) ≤ max 1 (depth_of_all types)
 item_depth [] n d one = omega (arith, one)
 item_depth (ty ∷ types) zero d one = omega arith
 item_depth (ty ∷ types) (suc n) d one = omega (arith, item_depth types n d one)
@@ -65,7 +66,8 @@ module _ (owner method : List Ty) where
   IsBounded ty = (depth_of ty ≤ depth_of (to ty)) × (depth_of (to ty) + 1 ≤ depth_of ty + most)
 
   abbrev AreBounded : List Ty → Type 0
-  AreBounded args = (depth_of_all args ≤ depth_of_all (map to args)) × (depth_of_all (map to args) + 1 ≤ depth_of_all args + most)
+  AreBounded args =
+      (depth_of_all args ≤ depth_of_all (map to args)) × (depth_of_all (map to args) + 1 ≤ depth_of_all args + most)
 
   all_bounded : (args : List Ty) → All IsBounded args → AreBounded args
   all_bounded [] each = (omega arith, omega arith)

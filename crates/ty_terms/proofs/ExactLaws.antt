@@ -38,11 +38,14 @@ field_name_exact a b e =
     λ i. record { owner = first i; row = second i }
 
 abbrev method_names : MethodName → MethodName → Ordering
-method_names a b = ordering_then (order a.owner b.owner) (ordering_then (method_ids a.method b.method) (slice_cmp order a.args b.args))
+method_names a b =
+    ordering_then (order a.owner b.owner) (ordering_then (method_ids a.method b.method) (slice_cmp order a.args b.args))
 
 pub method_name_exact : (a b : MethodName) → method_names a b ≡ Equal → a ≡ b
 method_name_exact a b e =
-    let owners = then_equal (order a.owner b.owner) (ordering_then (method_ids a.method b.method) (slice_cmp order a.args b.args)) e in
+    let owners =
+    then_equal (order a.owner b.owner) (ordering_then (method_ids a.method b.method)
+    (slice_cmp order a.args b.args)) e in
     let others = then_equal (method_ids a.method b.method) (slice_cmp order a.args b.args) owners.1 in
     let first = type_exact a.owner b.owner owners.0 in
     let second = method_id_exact a.method b.method others.0 in
@@ -50,11 +53,14 @@ method_name_exact a b e =
     λ i. record { owner = first i; method = second i; args = third i }
 
 abbrev slots : SlotName → SlotName → Ordering
-slots a b = ordering_then (order a.owner b.owner) (ordering_then (method_ids a.method b.method) (slice_cmp order a.args b.args))
+slots a b =
+    ordering_then (order a.owner b.owner) (ordering_then (method_ids a.method b.method) (slice_cmp order a.args b.args))
 
 pub slot_exact : (a b : SlotName) → slots a b ≡ Equal → a ≡ b
 slot_exact a b e =
-    let owners = then_equal (order a.owner b.owner) (ordering_then (method_ids a.method b.method) (slice_cmp order a.args b.args)) e in
+    let owners =
+    then_equal (order a.owner b.owner) (ordering_then (method_ids a.method b.method)
+    (slice_cmp order a.args b.args)) e in
     let others = then_equal (method_ids a.method b.method) (slice_cmp order a.args b.args) owners.1 in
     let first = type_exact a.owner b.owner owners.0 in
     let second = method_id_exact a.method b.method others.0 in

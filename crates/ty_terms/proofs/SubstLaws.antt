@@ -15,7 +15,8 @@ list_all-map test [] = refl
 list_all-map test (x ∷ xs) = ap (λ b. test x && b) (list_all-map test xs)
 
 module _ (o m : ℕ) where
-  pub below_named : (id : TypeId) (args : List Ty) → has_variables_below o m (Named id args) ≡ list_all (has_variables_below o m) args
+  pub below_named : (id : TypeId) (args : List Ty)
+      → has_variables_below o m (Named id args) ≡ list_all (has_variables_below o m) args
   below_named id args = fold-Named (within_step o m) id args ∙ list_all-map (has_variables_below o m) args
 
   below-Vector : (element : Ty) → has_variables_below o m (Vector element) ≡ has_variables_below o m element
@@ -71,37 +72,47 @@ module _ (owner method : List Ty) where
   abbrev LeftAlone : Ty → Type 0
   LeftAlone ty = IsClosed ty → substituted owner method ty ≡ ty
 
-  all_left_alone : (args : List Ty) → All LeftAlone args → IsTrue (list_all (has_variables_below 0 0) args) → map (substituted owner method) args ≡ args
+  all_left_alone : (args : List Ty) → All LeftAlone args → IsTrue (list_all (has_variables_below 0 0) args)
+      → map (substituted owner method) args ≡ args
   all_left_alone [] each closed = refl
   all_left_alone (ty ∷ args) each closed =
       let first = each.0 (and_first (has_variables_below 0 0 ty) (list_all (has_variables_below 0 0) args) closed) in
-      let rest = all_left_alone args each.1 (and_second (has_variables_below 0 0 ty) (list_all (has_variables_below 0 0) args) closed) in
+      let rest =
+      all_left_alone args each.1 (and_second (has_variables_below 0 0 ty) (list_all (has_variables_below 0 0) args)
+      closed) in
       λ i. first i ∷ rest i
 
   pub closed_left_alone : (ty : Ty) → LeftAlone ty
   closed_left_alone = induction LeftAlone (record {
     primitive = λ p closed. substituted-Prim owner method p;
     named = λ id args each closed.
-        substituted-Named owner method id args ∙ ap (Named id) (all_left_alone args each (sym (below_named 0 0 id args) ∙ closed));
-    vector = λ element same closed. substituted-Vector owner method element ∙ ap Vector (same (sym (below-Vector 0 0 element) ∙ closed));
-    by_ref = λ target same closed. substituted-ByRef owner method target ∙ ap ByRef (same (sym (below-ByRef 0 0 target) ∙ closed));
+        substituted-Named owner method id args ∙ ap (Named id)
+        (all_left_alone args each (sym (below_named 0 0 id args) ∙ closed));
+    vector = λ element same closed. substituted-Vector owner method element
+        ∙ ap Vector (same (sym (below-Vector 0 0 element) ∙ closed));
+    by_ref = λ target same closed. substituted-ByRef owner method target
+        ∙ ap ByRef (same (sym (below-ByRef 0 0 target) ∙ closed));
     var = λ n closed. absurd (none_below n (sym (below-Var 0 0 n) ∙ closed));
     mvar = λ n closed. absurd (none_below n (sym (below-MVar 0 0 n) ∙ closed));
     canon = λ closed. substituted-Canon owner method;
   })
 
 -- the item of a list at a place below its length, after a map
-index-map : (f : Ty → Ty) (types : List Ty) (n : ℕ) (x y : Ty) → IsTrue (nat_lt n (length types)) → f (slice_index_or types n x) ≡ slice_index_or (map f types) n y
+index-map : (f : Ty → Ty) (types : List Ty) (n : ℕ) (x y : Ty) → IsTrue (nat_lt n (length types))
+    → f (slice_index_or types n x) ≡ slice_index_or (map f types) n y
 index-map f types n x y h = sym (get_or-map f types n x y (ltb-true n (length types) h))
 
-index-all : (test : Ty → Bool) (types : List Ty) (n : ℕ) (d : Ty) → IsTrue (list_all test types) → IsTrue (nat_lt n (length types)) → IsTrue (test (slice_index_or types n d))
+index-all : (test : Ty → Bool) (types : List Ty) (n : ℕ) (d : Ty) → IsTrue (list_all test types)
+    → IsTrue (nat_lt n (length types)) → IsTrue (test (slice_index_or types n d))
 index-all test [] n d all h = absurd (none_below n h)
 index-all test (ty ∷ types) zero d all h = and_first (test ty) (list_all test types) all
 index-all test (ty ∷ types) (suc n) d all h =
-    index-all test types n d (and_second (test ty) (list_all test types) all) (lt-ltb n (length types) (omega (arith, ltb-true (suc n) (length (ty ∷ types)) h)))
+    index-all test types n d (and_second (test ty) (list_all test types) all)
+    (lt-ltb n (length types) (omega (arith, ltb-true (suc n) (length (ty ∷ types)) h)))
 
 -- the variables of what the arguments are put into
-module _ (owner method : List Ty) (n m : ℕ) (owner_below : IsTrue (list_all (has_variables_below n m) owner)) (method_below : IsTrue (list_all (has_variables_below n m) method)) where
+module _ (owner method : List Ty) (n m : ℕ) (owner_below : IsTrue (list_all (has_variables_below n m) owner))
+    (method_below : IsTrue (list_all (has_variables_below n m) method)) where
   abbrev before : Ty → Bool
   before = has_variables_below (length owner) (length method)
 
@@ -156,7 +167,8 @@ module _ (outer_owner outer_method owner method : List Ty) where
       IsTrue (has_variables_below (length owner) (length method) ty)
       → outer (substituted owner method ty) ≡ substituted (map outer owner) (map outer method) ty
 
-  all_compose : (args : List Ty) → All Composes args → IsTrue (list_all (has_variables_below (length owner) (length method)) args)
+  all_compose : (args : List Ty) → All Composes args
+      → IsTrue (list_all (has_variables_below (length owner) (length method)) args)
       → map outer (map (substituted owner method) args) ≡ map (substituted (map outer owner) (map outer method)) args
   all_compose [] each below = refl
   all_compose (ty ∷ args) each below =
@@ -171,15 +183,18 @@ module _ (outer_owner outer_method owner method : List Ty) where
         ap outer (substituted-Prim owner method p) ∙ substituted-Prim outer_owner outer_method p
         ∙ sym (substituted-Prim (map outer owner) (map outer method) p);
     named = λ id args each below.
-        ap outer (substituted-Named owner method id args) ∙ substituted-Named outer_owner outer_method id (map (substituted owner method) args)
+        ap outer (substituted-Named owner method id args)
+        ∙ substituted-Named outer_owner outer_method id (map (substituted owner method) args)
         ∙ ap (Named id) (all_compose args each (sym (below_named (length owner) (length method) id args) ∙ below))
         ∙ sym (substituted-Named (map outer owner) (map outer method) id args);
     vector = λ element same below.
-        ap outer (substituted-Vector owner method element) ∙ substituted-Vector outer_owner outer_method (substituted owner method element)
+        ap outer (substituted-Vector owner method element)
+        ∙ substituted-Vector outer_owner outer_method (substituted owner method element)
         ∙ ap Vector (same (sym (below-Vector (length owner) (length method) element) ∙ below))
         ∙ sym (substituted-Vector (map outer owner) (map outer method) element);
     by_ref = λ target same below.
-        ap outer (substituted-ByRef owner method target) ∙ substituted-ByRef outer_owner outer_method (substituted owner method target)
+        ap outer (substituted-ByRef owner method target)
+        ∙ substituted-ByRef outer_owner outer_method (substituted owner method target)
         ∙ ap ByRef (same (sym (below-ByRef (length owner) (length method) target) ∙ below))
         ∙ sym (substituted-ByRef (map outer owner) (map outer method) target);
     var = λ n below.

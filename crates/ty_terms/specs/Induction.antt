@@ -31,7 +31,8 @@ Proved P = (ty : Ty) × P ty
 
 at_layer : (P : Ty → Type 0) → Cases P → (y : Ty-F (Proved P)) → P (roll-Ty (map-Ty (Proved P) Ty (λ e. e.0) y))
 at_layer P c (Ty-F.Prim p) = subst P (sym (rolls-Prim p)) (c.primitive p)
-at_layer P c (Ty-F.Named id args) = subst P (sym (rolls-Named id (map (λ e. e.0) args))) (c.named id (map (λ e. e.0) args) (all_proofs args))
+at_layer P c (Ty-F.Named id args) =
+    subst P (sym (rolls-Named id (map (λ e. e.0) args))) (c.named id (map (λ e. e.0) args) (all_proofs args))
 at_layer P c (Ty-F.Vector e) = subst P (sym (rolls-Vector e.0)) (c.vector e.0 e.1)
 at_layer P c (Ty-F.ByRef e) = subst P (sym (rolls-ByRef e.0)) (c.by_ref e.0 e.1)
 at_layer P c (Ty-F.Var n) = subst P (sym (rolls-Var n)) (c.var n)
@@ -43,7 +44,8 @@ induction P c = ind-Ty P (λ x y is. subst (λ z. P (roll-Ty z)) is (at_layer P 
 
 -- what a fold gives at each form
 module _ {A : Type 0} (step : Ty-F A → A) where
-  pub fold-Named : (id : TypeId) (args : List Ty) → fold-Ty A step (Named id args) ≡ step (Ty-F.Named id (map (fold-Ty A step) args))
+  pub fold-Named : (id : TypeId) (args : List Ty) → fold-Ty A step (Named id args)
+      ≡ step (Ty-F.Named id (map (fold-Ty A step) args))
   fold-Named id args = ap (fold-Ty A step) (sym (rolls-Named id args)) ∙ fold-roll-Ty A step (Ty-F.Named id args)
 
   pub fold-Vector : (element : Ty) → fold-Ty A step (Vector element) ≡ step (Ty-F.Vector (fold-Ty A step element))

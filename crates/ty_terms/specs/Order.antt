@@ -60,7 +60,8 @@ inside _ = []
 -- one layer, with the order of each inner type against another type in its place
 abbrev pub order_step : Ty-F (Ty → Ordering) → Ty → Ordering
 order_step layer other =
-    ordering_then (slice_cmp nat_cmp (head layer) (head (out-Ty other))) (slice_cmp (λ order ty. order ty) (inside layer) (inside (out-Ty other)))
+    ordering_then (slice_cmp nat_cmp (head layer) (head (out-Ty other)))
+    (slice_cmp (λ order ty. order ty) (inside layer) (inside (out-Ty other)))
 
 abbrev pub order : Ty → Ty → Ordering
 order = fold-Ty (Ty → Ordering) order_step

@@ -19,7 +19,8 @@ use Rattle.ty_terms.specs.Induction.{All, induction, out-Prim, out-Named, out-Ve
 
 -- ---- the equation
 
-apply_each : (f : Ty → Ty → Ordering) (xs ys : List Ty) → slice_cmp (λ order ty. order ty) (map f xs) ys ≡ slice_cmp f xs ys
+apply_each : (f : Ty → Ty → Ordering) (xs ys : List Ty)
+    → slice_cmp (λ order ty. order ty) (map f xs) ys ≡ slice_cmp f xs ys
 apply_each f [] [] = refl
 apply_each f [] (y ∷ ys) = refl
 apply_each f (x ∷ xs) [] = refl
@@ -50,10 +51,12 @@ own ty = head (out-Ty ty)
 abbrev inner : Ty → List Ty
 inner ty = inside (out-Ty ty)
 
-pub order_is : (a b : Ty) → order a b ≡ ordering_then (slice_cmp nat_cmp (own a) (own b)) (slice_cmp order (inner a) (inner b))
+pub order_is : (a b : Ty) → order a b ≡ ordering_then (slice_cmp nat_cmp (own a) (own b))
+    (slice_cmp order (inner a) (inner b))
 order_is a b =
     ap (λ o. o b) (fold_out-Ty (Ty → Ordering) order_step a)
-    ∙ (λ i. ordering_then (slice_cmp nat_cmp (head-map order (out-Ty a) i) (own b)) (slice_cmp (λ order ty. order ty) (inside-map order (out-Ty a) i) (inner b)))
+    ∙ (λ i. ordering_then (slice_cmp nat_cmp (head-map order (out-Ty a) i) (own b))
+    (slice_cmp (λ order ty. order ty) (inside-map order (out-Ty a) i) (inner b)))
     ∙ ap (ordering_then (slice_cmp nat_cmp (own a) (own b))) (apply_each order (inner a) (inner b))
 
 -- an induction with one case: what holds of all inner types holds of the type
@@ -70,7 +73,8 @@ from_inner P step = induction P (record {
 
 -- ---- total
 
-reverse-then : (o p : Ordering) → ordering_reverse (ordering_then o p) ≡ ordering_then (ordering_reverse o) (ordering_reverse p)
+reverse-then : (o p : Ordering) → ordering_reverse (ordering_then o p)
+    ≡ ordering_then (ordering_reverse o) (ordering_reverse p)
 reverse-then Less p = refl
 reverse-then Equal p = refl
 reverse-then Greater p = refl
@@ -88,7 +92,8 @@ lists_turn [] [] each = refl
 lists_turn [] (y ∷ ys) each = refl
 lists_turn (x ∷ xs) [] each = refl
 lists_turn (x ∷ xs) (y ∷ ys) each =
-    (λ i. ordering_then (each.0 y i) (lists_turn xs ys each.1 i)) ∙ sym (reverse-then (order y x) (slice_cmp order ys xs))
+    (λ i. ordering_then (each.0 y i) (lists_turn xs ys each.1 i))
+    ∙ sym (reverse-then (order y x) (slice_cmp order ys xs))
 
 turns : (a : Ty) → Turns a
 turns = from_inner Turns (λ a each b.
@@ -133,8 +138,10 @@ lists_exact (x ∷ xs) (y ∷ ys) each e =
 -- a layer, from what it says itself and what stands inside
 primitive_of : ℕ → Primitive
 primitive_of n =
-    cond (n == 0) Void (cond (n == 1) Boolean (cond (n == 2) Char (cond (n == 3) I1 (cond (n == 4) U1 (cond (n == 5) I2 (cond (n == 6) U2
-    (cond (n == 7) I4 (cond (n == 8) U4 (cond (n == 9) I8 (cond (n == 10) U8 (cond (n == 11) String (cond (n == 12) I (cond (n == 13) U Object)))))))))))))
+    cond (n == 0) Void (cond (n == 1) Boolean (cond (n == 2) Char
+    (cond (n == 3) I1 (cond (n == 4) U1 (cond (n == 5) I2 (cond (n == 6) U2
+    (cond (n == 7) I4 (cond (n == 8) U4 (cond (n == 9) I8 (cond (n == 10) U8
+    (cond (n == 11) String (cond (n == 12) I (cond (n == 13) U Object)))))))))))))
 
 primitive_back : (p : Primitive) → primitive_of (primitive_number p) ≡ p
 unfolding primitive_of
@@ -197,8 +204,11 @@ roll_out ty = search the_lemmas
 
 exact : (a : Ty) → Exact a
 exact = from_inner Exact (λ a each b e.
-    let both = then_equal (slice_cmp nat_cmp (own a) (own b)) (slice_cmp order (inner a) (inner b)) (sym (order_is a b) ∙ e) in
-    let same = layer_exact (out-Ty a) (out-Ty b) (numbers_exact (own a) (own b) both.0) (lists_exact (inner a) (inner b) each both.1) in
+    let both =
+    then_equal (slice_cmp nat_cmp (own a) (own b)) (slice_cmp order (inner a) (inner b)) (sym (order_is a b) ∙ e) in
+    let same =
+    layer_exact (out-Ty a) (out-Ty b) (numbers_exact (own a) (own b) both.0)
+    (lists_exact (inner a) (inner b) each both.1) in
     sym (roll_out a) ∙ ap roll-Ty same ∙ roll_out b)
 
 -- ---- chains
@@ -217,20 +227,24 @@ then_chain Greater p q o' p' q' chain left right rest e f = cc
 abbrev Chains : Ty → Type 0
 Chains a = (b c : Ty) → order a b ≡ Less → order b c ≡ Less → order a c ≡ Less
 
-lists_chain : (xs ys zs : List Ty) → All Chains xs → slice_cmp order xs ys ≡ Less → slice_cmp order ys zs ≡ Less → slice_cmp order xs zs ≡ Less
+lists_chain : (xs ys zs : List Ty) → All Chains xs → slice_cmp order xs ys ≡ Less → slice_cmp order ys zs ≡ Less
+    → slice_cmp order xs zs ≡ Less
 lists_chain [] [] zs each e f = f
 lists_chain [] (y ∷ ys) [] each e f = cc
 lists_chain [] (y ∷ ys) (z ∷ zs) each e f = refl
 lists_chain (x ∷ xs) [] zs each e f = cc
 lists_chain (x ∷ xs) (y ∷ ys) [] each e f = f
 lists_chain (x ∷ xs) (y ∷ ys) (z ∷ zs) each e f =
-    then_chain (order x y) (order y z) (order x z) (slice_cmp order xs ys) (slice_cmp order ys zs) (slice_cmp order xs zs)
-    (each.0 y z) (λ same. ap (λ t. order t z) (exact x y same)) (λ same. ap (order x) (sym (exact y z same))) (lists_chain xs ys zs each.1) e f
+    then_chain (order x y) (order y z) (order x z) (slice_cmp order xs ys) (slice_cmp order ys zs)
+    (slice_cmp order xs zs)
+    (each.0 y z) (λ same. ap (λ t. order t z) (exact x y same)) (λ same. ap (order x) (sym (exact y z same)))
+    (lists_chain xs ys zs each.1) e f
 
 chains : (a : Ty) → Chains a
 chains = from_inner Chains (λ a each b c e f.
     order_is a c
-    ∙ then_chain (slice_cmp nat_cmp (own a) (own b)) (slice_cmp nat_cmp (own b) (own c)) (slice_cmp nat_cmp (own a) (own c))
+    ∙ then_chain (slice_cmp nat_cmp (own a) (own b)) (slice_cmp nat_cmp (own b) (own c))
+    (slice_cmp nat_cmp (own a) (own c))
     (slice_cmp order (inner a) (inner b)) (slice_cmp order (inner b) (inner c)) (slice_cmp order (inner a) (inner c))
     (nat_list_cmp_total.trans (own a) (own b) (own c))
     (λ same. ap (λ t. slice_cmp nat_cmp t (own c)) (numbers_exact (own a) (own b) same))
@@ -248,26 +262,32 @@ order_total = record {
 -- ---- the order at types of one kind
 
 pub order_named : (i j : TypeId) (xs ys : List Ty)
-    → order (Named i xs) (Named j ys) ≡ ordering_then (ordering_then (nat_cmp i.module j.module) (nat_cmp i.row j.row)) (slice_cmp order xs ys)
+    → order (Named i xs) (Named j ys) ≡ ordering_then (ordering_then (nat_cmp i.module j.module) (nat_cmp i.row j.row))
+    (slice_cmp order xs ys)
 order_named i j xs ys =
     order_is (Named i xs) (Named j ys)
-    ∙ (λ k. ordering_then (slice_cmp nat_cmp (head (out-Named i xs k)) (head (out-Named j ys k))) (slice_cmp order (inside (out-Named i xs k)) (inside (out-Named j ys k))))
-    ∙ ap (λ o. ordering_then o (slice_cmp order xs ys)) (ap (ordering_then (nat_cmp i.module j.module)) (then-equal (nat_cmp i.row j.row)))
+    ∙ (λ k. ordering_then (slice_cmp nat_cmp (head (out-Named i xs k)) (head (out-Named j ys k)))
+    (slice_cmp order (inside (out-Named i xs k)) (inside (out-Named j ys k))))
+    ∙ ap (λ o. ordering_then o (slice_cmp order xs ys))
+    (ap (ordering_then (nat_cmp i.module j.module)) (then-equal (nat_cmp i.row j.row)))
 
 pub order_vector : (a b : Ty) → order (Vector a) (Vector b) ≡ order a b
 order_vector a b =
     order_is (Vector a) (Vector b)
-    ∙ (λ k. ordering_then (slice_cmp nat_cmp (head (out-Vector a k)) (head (out-Vector b k))) (slice_cmp order (inside (out-Vector a k)) (inside (out-Vector b k))))
+    ∙ (λ k. ordering_then (slice_cmp nat_cmp (head (out-Vector a k)) (head (out-Vector b k)))
+    (slice_cmp order (inside (out-Vector a k)) (inside (out-Vector b k))))
     ∙ then-equal (order a b)
 
 pub order_by_ref : (a b : Ty) → order (ByRef a) (ByRef b) ≡ order a b
 order_by_ref a b =
     order_is (ByRef a) (ByRef b)
-    ∙ (λ k. ordering_then (slice_cmp nat_cmp (head (out-ByRef a k)) (head (out-ByRef b k))) (slice_cmp order (inside (out-ByRef a k)) (inside (out-ByRef b k))))
+    ∙ (λ k. ordering_then (slice_cmp nat_cmp (head (out-ByRef a k)) (head (out-ByRef b k)))
+    (slice_cmp order (inside (out-ByRef a k)) (inside (out-ByRef b k))))
     ∙ then-equal (order a b)
 
 -- at the end of one list, the longer one comes after it
-pub longer_after : (i : ℕ) (xs ys : List Ty) → length xs ≤ i → i ≤ length xs → i < length ys → slice_cmp order (drop i xs) (drop i ys) ≡ Less
+pub longer_after : (i : ℕ) (xs ys : List Ty) → length xs ≤ i → i ≤ length xs → i < length ys
+    → slice_cmp order (drop i xs) (drop i ys) ≡ Less
 longer_after i xs [] low high h = absurd (omega arith)
 longer_after zero [] (y ∷ ys) low high h = refl
 longer_after zero (x ∷ xs) (y ∷ ys) low high h = absurd (omega arith)

@@ -79,7 +79,11 @@ pub fn entry_order()
 
 /// A substitution after a substitution is one by the composed lists.
 pub fn subst_of_subst()
-    ensures { (outer_owner outer_method owner method : List Ty) (ty : Ty) → IsTrue (has_variables_below (length owner) (length method) ty) → substituted outer_owner outer_method (substituted owner method ty) ≡ substituted (map (substituted outer_owner outer_method) owner) (map (substituted outer_owner outer_method) method) ty }
+    ensures { (outer_owner outer_method owner method : List Ty) (ty : Ty) →
+        IsTrue (has_variables_below (length owner) (length method) ty) →
+        substituted outer_owner outer_method (substituted owner method ty)
+        ≡ substituted (map (substituted outer_owner outer_method) owner)
+        (map (substituted outer_owner outer_method) method) ty }
 {}
 
 /// A closed type is left alone by a substitution.
@@ -89,14 +93,18 @@ pub fn subst_of_closed()
 
 /// Where the arguments have their variables below two numbers, what they are put into has too.
 pub fn variables_of_subst()
-    ensures { (owner method : List Ty) (n m : ℕ) (ty : Ty) → IsTrue (has_variables_below (length owner) (length method) ty) → IsTrue (list_all (has_variables_below n m) owner) → IsTrue (list_all (has_variables_below n m) method) → IsTrue (has_variables_below n m (substituted owner method ty)) }
+    ensures { (owner method : List Ty) (n m : ℕ) (ty : Ty) →
+        IsTrue (has_variables_below (length owner) (length method) ty) →
+        IsTrue (list_all (has_variables_below n m) owner) → IsTrue (list_all (has_variables_below n m) method) →
+        IsTrue (has_variables_below n m (substituted owner method ty)) }
 {}
 
 /// The depth after a substitution: no less than before, and no more than a variable less and the deepest argument
 /// more.
 pub fn depth_of_subst()
     ensures no_less { (owner method : List Ty) (ty : Ty) → depth_of ty ≤ depth_of (substituted owner method ty) }
-    ensures no_more { (owner method : List Ty) (ty : Ty) → depth_of (substituted owner method ty) + 1 ≤ depth_of ty + max 1 (depth_of_all (owner ++ method)) }
+    ensures no_more { (owner method : List Ty) (ty : Ty) →
+        depth_of (substituted owner method ty) + 1 ≤ depth_of ty + max 1 (depth_of_all (owner ++ method)) }
 {}
 
 /// A canonical type is its own canonical type.
@@ -106,5 +114,6 @@ pub fn canon_of_canon()
 
 /// A canonical form is its own canonical form.
 pub fn canon_of_canonical_form()
-    ensures { (values : List TypeId) (name : MethodName) → canonical_form values (canonical_form values name) ≡ canonical_form values name }
+    ensures { (values : List TypeId) (name : MethodName) →
+        canonical_form values (canonical_form values name) ≡ canonical_form values name }
 {}

@@ -6,5 +6,7 @@ use Rattle.ty_terms.proofs.canonical.+canon.Goals as goal
 
 pub canon-returns-in_ok-args-in-Named : goal.canon-returns-in_ok-args-in-Named
 canon-returns-in_ok-args-in-Named t c =
-    ap (Named c.in-Named.id) (c.in_ok-args-in-Named.ensures ∙ ap (map (canonical_argument c.args.values.now)) c.as_slice.ensures)
-    ∙ sym (canonical_named c.args.values.now c.in-Named.id c.in-Named.args) ∙ sym (ap (canonical c.args.values.now) c.in-Named.is)
+    ap (Named c.in-Named.id) (c.in_ok-args-in-Named.ensures ∙ ap (map (canonical_argument c.args.values.now))
+    c.as_slice.ensures)
+    ∙ sym (canonical_named c.args.values.now c.in-Named.id c.in-Named.args)
+    ∙ sym (ap (canonical c.args.values.now) c.in-Named.is)

@@ -15,4 +15,5 @@ compare-returns-in-Equal t c =
 
 pub compare_all-returns-then-a-b : goal.compare_all-returns-then-a-b
 compare_all-returns-then-a-b t c =
-    sym (longer_after c.loop-i.i c.args.a.now c.args.b.now (omega arith) (omega arith) (omega arith)) ∙ c.loop-i.invariant
+    sym (longer_after c.loop-i.i c.args.a.now c.args.b.now (omega arith) (omega arith) (omega arith))
+    ∙ c.loop-i.invariant
