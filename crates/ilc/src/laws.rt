@@ -13,8 +13,10 @@ ghost use Rattle.ilc.specs.declared.refusal.Refusal.{Refusal};
 /// Words are accepted exactly where they are a line of a command, and else the index of the first word that no line
 /// goes on with is told.
 pub fn accepted_words()
-    ensures accepted { (words : List (List ℕ)) (asked : Command) → (command_of words ≡ Ok asked) ↔ AsksFor words asked }
-    ensures first_wrong { (words : List (List ℕ)) (index : ℕ) → command_of words ≡ Err index → IsFirstWrong index words }
+    ensures accepted { (words : List (List ℕ)) (asked : Command) →
+        (command_of words ≡ Ok asked) ↔ AsksFor words asked }
+    ensures first_wrong { (words : List (List ℕ)) (index : ℕ) →
+        command_of words ≡ Err index → IsFirstWrong index words }
 {}
 
 /// Where the store and the source tell all, words come to one outcome, but for counted faults and want of memory.
