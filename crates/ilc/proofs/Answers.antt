@@ -104,42 +104,50 @@ run_complete words before now streams streams' o elf limit count steps status ca
 -- ---- the fields of refusals
 
 stage_formed : (stage : Stage) (file : List ℕ) (place : ℕ) → IsFormed (refusal_at stage file place)
-stage_formed Header file place = tt
-stage_formed Opcodes file place = tt
-stage_formed Targets file place = tt
-stage_formed Flow file place = tt
-stage_formed Operations file place = tt
-stage_formed Verification file place = tt
-stage_formed Load file place = tt
+stage_formed Header file place = refl
+stage_formed Opcodes file place = refl
+stage_formed Targets file place = refl
+stage_formed Flow file place = refl
+stage_formed Operations file place = refl
+stage_formed Verification file place = refl
+stage_formed Load file place = refl
 
 not_taken_formed : (stages : List Stage) (name : List ℕ) (limit : ℕ) (before now : StoreSeen) (refusal : Refusal)
     → NotTaken stages name limit before now (Refused refusal) → IsFormed refusal
 not_taken_formed stages name limit before now refusal h =
     subst IsFormed (sym h.2.told) (stage_formed h.2.stage name h.2.place)
 
+usage_formed : (index : ℕ) (refusal : Refusal) → (Refused refusal ≡ Usage index) ⊎ (Refused refusal ≡ Memory)
+    → IsFormed refusal
+usage_formed index refusal (inl e) = absurd (cc)
+usage_formed index refusal (inr e) = absurd (cc)
+
+body_formed : (file out : List ℕ) (before now : StoreSeen) (refusal : Refusal)
+    → BodyOutcome file out before now (Refused refusal) → IsFormed refusal
+body_formed file out before now refusal (inl n) =
+    not_taken_formed body_stages file body_limit before now refusal n.0
+body_formed file out before now refusal (inr n) = absurd n.writes
+
+machine_formed : (machine : MachineState) (limit : ℕ) (count : Bool) (streams streams' : StreamsSeen)
+    (refusal : Refusal) → MachineOutcome machine limit count streams streams' (Refused refusal) → IsFormed refusal
+machine_formed machine limit count streams streams' refusal (inl n) = subst IsFormed (sym n.0) refl
+machine_formed machine limit count streams streams' refusal (inr n) = subst IsFormed (sym n.1) refl
+
+run_formed : (elf : List ℕ) (limit : ℕ) (count : Bool) (before now : StoreSeen) (streams streams' : StreamsSeen)
+    (refusal : Refusal) → RunOutcome elf limit count before now streams streams' (Refused refusal) → IsFormed refusal
+run_formed elf limit count before now streams streams' refusal (inl n) =
+    not_taken_formed elf_stages elf elf_limit before now refusal n.0
+run_formed elf limit count before now streams streams' refusal (inr n) =
+    machine_formed n.0 limit count streams streams' refusal n.2
+
 command_formed : (asked : Result Command ℕ) (before now : StoreSeen) (streams streams' : StreamsSeen)
     (refusal : Refusal)
     → CommandOutcome asked before now streams streams' (Refused refusal) → IsFormed refusal
-command_formed (Err index) before now streams streams' refusal h = absurd (by h.0)
-  where
-    by : (Refused refusal ≡ Usage index) ⊎ (Refused refusal ≡ Memory) → ⊥
-    by (inl e) = cc
-    by (inr e) = cc
-command_formed (Ok (Body file out)) before now streams streams' refusal h = by h.0
-  where
-    by : BodyOutcome file out before now (Refused refusal) → IsFormed refusal
-    by (inl n) = not_taken_formed body_stages file body_limit before now refusal n.0
-    by (inr n) = absurd n.writes
-command_formed (Ok (Run elf limit count)) before now streams streams' refusal h = by h.0
-  where
-    machine_formed : (machine : MachineState) → MachineOutcome machine limit count streams streams' (Refused refusal)
-        → IsFormed refusal
-    machine_formed machine (inl n) = subst IsFormed (sym n.0) tt
-    machine_formed machine (inr n) = subst IsFormed (sym n.1) tt
-
-    by : RunOutcome elf limit count before now streams streams' (Refused refusal) → IsFormed refusal
-    by (inl n) = not_taken_formed elf_stages elf elf_limit before now refusal n.0
-    by (inr n) = machine_formed n.0 n.2
+command_formed (Err index) before now streams streams' refusal h = usage_formed index refusal h.0
+command_formed (Ok (Body file out)) before now streams streams' refusal h =
+    body_formed file out before now refusal h.0
+command_formed (Ok (Run elf limit count)) before now streams streams' refusal h =
+    run_formed elf limit count before now streams streams' refusal h.0
 
 pub formed_refusals : (words : List (List ℕ)) (before now : StoreSeen) (streams between : StreamsSeen)
     (refusal : Refusal)

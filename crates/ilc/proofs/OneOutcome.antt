@@ -69,7 +69,7 @@ one_body file out before now now' store o o' told none none' (inr h) (inl h') =
 one_body file out before now now' store o o' told none none' (inr h) (inr h') =
     two o o' (taken_by file out before now o none h) (taken_by file out before now' o' none' h')
 
-body_done : (file out : List ℕ) (before now : StoreSeen) (o : Outcome) → HasBare file before.told
+pub body_done : (file out : List ℕ) (before now : StoreSeen) (o : Outcome) → HasBare file before.told
     → NoneCounted before now → BodyOutcome file out before now o → (o ≡ Written) ⊎ (o ≡ Memory)
 body_done file out before now o bare none (inr h) = taken_by file out before now o none h
 body_done file out before now o bare none (inl h) =
@@ -123,7 +123,7 @@ one_run elf limit count before now now' streams s s' store input o o' told left 
     inr (inr (one_of_run limit (machine_run h.0 input limit) o o' run
     (subst (λ m. OutcomeOf limit (machine_run m input limit) o') same run')))
 
-run_done : (elf : List ℕ) (limit : ℕ) (count : Bool) (steps status : ℕ) (before now : StoreSeen)
+pub run_done : (elf : List ℕ) (limit : ℕ) (count : Bool) (steps status : ℕ) (before now : StoreSeen)
     (streams s : StreamsSeen) (o : Outcome)
     → steps ≤ limit → HasProgram elf steps status before.told streams.outside.rest → NoneCounted before now
     → NoneOfStreams streams s → RunOutcome elf limit count before now streams s o → (o ≡ Ended status) ⊎ (o ≡ Memory)

@@ -183,8 +183,8 @@ not_taken_one stages name limit store o o' (inr h) (inr h') = inr
     (inr (one_shape stages name limit (get store name) o o' h h'))
 
 pub is_memory : {P : Type 0} (o : Outcome) → (P → ⊥) → (o ≡ Memory) ⊎ P → o ≡ Memory
-is_memory o no (inl e) = e
-is_memory o no (inr p) = absurd (no p)
+is_memory o never (inl e) = e
+is_memory o never (inr p) = absurd (never p)
 
 -- ---- a file that is written
 

@@ -107,11 +107,11 @@ fn load<F: Files>(alloc: Global, files: &mut F, elf: &Text) -> Result<Machine, O
         (F.write_faults files.new))) }
     ensures same_files { F.told files.new ≡ F.told files.old }
 {
-    let bytes = match read(alloc, files, elf, ELF_LIMIT) {
-        Ok(bytes) => bytes,
+    let content = match read(alloc, files, elf, ELF_LIMIT) {
+        Ok(content) => content,
         Err(outcome) => return Err(outcome),
     };
-    match load_elf(alloc, bytes.as_slice()) {
+    match load_elf(alloc, content.as_slice()) {
         Ok(machine) => Ok(machine),
         Err(ElfFault::BadElf(place)) => Err(refused(alloc, Fault::BadElf, elf.bytes(), place)),
         Err(ElfFault::Memory) => Err(Outcome::Memory),

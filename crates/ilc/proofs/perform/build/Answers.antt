@@ -17,3 +17,6 @@ returns-clause-refused g c =
     c.in-Ok.ensures.read
     (c.build_outcome.ensures c.in-Ok.bytes
     (subst (λ bytes. NotBare bytes c.in-Err-build_body.fault) c.as_slice.ensures c.in-Err-build_body.ensures.refused))
+
+pub returns-in-Err-clause-refused : goal.returns-in-Err-clause-refused
+returns-in-Err-clause-refused g c = c.in-Err.ensures.not_read body_stages

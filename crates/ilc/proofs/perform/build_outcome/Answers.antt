@@ -5,8 +5,8 @@ use Rattle.ilc.proofs.perform.build_outcome.Goals as goal
 
 pub returns-in-BadHeader : goal.returns-in-BadHeader
 returns-in-BadHeader c bytes =
-    subst (λ fault. IsRefusedBy bytes c.args.file.now fault c.refused-in-BadHeader.result) (sym c.in-BadHeader.is)
-    (refused_header c.args.file.now bytes _ c.in-BadHeader.at _ c.bytes.ensures.bytes c.refused-in-BadHeader.ensures)
+    subst (λ fault. IsRefusedBy bytes c.args.file.now fault c.refused.result) (sym c.in-BadHeader.is)
+    (refused_header c.args.file.now bytes _ c.in-BadHeader.at _ c.bytes.ensures.bytes c.refused.ensures)
 
 pub returns-in-BadOpcode : goal.returns-in-BadOpcode
 returns-in-BadOpcode c bytes =

@@ -90,8 +90,14 @@ returns-in-Err-ReadFault g c =
 pub returns-in-Err-WriteFault : goal.returns-in-Err-WriteFault
 returns-in-Err-WriteFault g c =
     let is = ap Err c.in-Err-WriteFault.field-0-is in
+    let before : StreamsSeen = streams_seen (g.I.Source.rest c.args.input.now) (g.O.Sink.written c.args.out.now)
+    (g.E.Sink.written c.args.err.now) (g.I.Source.faults c.args.input.now) (g.O.Sink.faults c.args.out.now)
+    (g.E.Sink.faults c.args.err.now) in
+    let now : StreamsSeen = streams_seen (g.I.Source.rest c.run.new.input) (g.O.Sink.written c.run.new.out)
+    (g.E.Sink.written c.run.new.err) (g.I.Source.faults c.run.new.input) (g.O.Sink.faults c.run.new.out)
+    (g.E.Sink.faults c.run.new.err) in
     inl (
       c.run.new.self,
-      sink_fails c.run.new.self _ _ (c.in-Err-WriteFault.ensures.write_fault is),
+      sink_fails c.run.new.self before now (c.in-Err-WriteFault.ensures.write_fault is),
       c.in-Err-WriteFault.ensures.write_fails is,
     )
