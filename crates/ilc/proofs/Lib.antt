@@ -1,7 +1,11 @@
-pub mod Words
-pub mod StepCount
 pub mod Printing
 pub mod Hex
 pub mod Counted
+pub mod Faults
+pub mod NumberOf
+pub mod WordLemmas
+pub mod NotRead
+pub mod Shapes
+pub mod WordLaws
+pub mod OneOutcome
 pub mod Answers
-pub mod Completeness

@@ -1,25 +1,29 @@
 -- When each outcome of a command comes.
-use Rattle.std.specs.Prelude.{◌≡◌, ◌⊎◌, ℕ, ◌<◌, ◌≤◌, Bool, true, false, List, [], ◌∷◌, ◌++◌, length, Option, Some, None, Result, Ok, Err}
+use Rattle.std.specs.Prelude.{◌≡◌, ◌⊎◌, ℕ, ◌<◌, ◌≤◌, Bool, true, false, List, [], ◌∷◌, ◌++◌, length, Option, Some, None, unwrap_or, Result, Ok, Err}
 use Rattle.std.specs.Option.{option_map}
 use Rattle.std.specs.FinMap.{get}
+use Rattle.ilc_io.specs.Calls.{noted, MayNote, ReadsInPieces, WritesInPieces}
 use Rattle.ilc_io.specs.Count.{HasRisen}
-use Rattle.ilc_io.specs.declared.fault.FileFault.{FileFault}
-use Rattle.ilc_io.specs.declared.fault.FileFault.TheVariants.{Missing, Failed, TooLong as FileTooLong, Memory as FileMemory}
 use Rattle.ilc_io.specs.Store.{Store, size_of, stored, IsPartlyStored}
+use Rattle.ilc_io.specs.declared.call.Call.TheVariants.{Size}
 use Rattle.rv_step.specs.Machine.{MachineState, request}
 use Rattle.rv_step.specs.Outcomes.{Asks, GoesOn, EndsAfter, TrapsWithin, ReadFailsWithin, WriteFailsWithin}
+use Rattle.rv_step.specs.declared.trap.Trap.{Trap}
 use Rattle.elf_file.specs.Elf.{loaded}
 use Rattle.ilc_build.specs.Implements.{Builds}
-use Rattle.ilc_build.specs.Refusals.{NotBare}
-use Rattle.ilc_build.specs.declared.build.BuildFault.{BuildFault}
 use Rattle.ilc.specs.Line.{count_line}
 use Rattle.ilc.specs.Printed.{Prints, BreaksOff}
 use Rattle.ilc.specs.Seen.{StoreSeen, StreamsSeen}
-use Rattle.ilc.specs.Words.{command_of, word_at}
+use Rattle.ilc.specs.Stages.{Stage, body_stages, elf_stages, IsRefused}
+use Rattle.ilc.specs.Words.{command_of}
 use Rattle.ilc.specs.declared.command.Command.{Command}
 use Rattle.ilc.specs.declared.command.Command.TheVariants.{Body, Run}
 use Rattle.ilc.specs.declared.outcome.Outcome.{Outcome}
-use Rattle.ilc.specs.declared.outcome.Outcome.TheVariants.{Usage, NoFile, TooLong, BadHeader, BadOpcode, BadTarget, OpcodeOutside, Unverified, BadElf, ReadFault, WriteFault, Spent, Trapped, Ended, Written, Memory}
+use Rattle.ilc.specs.declared.outcome.Outcome.TheVariants.{Usage, NoFile, TooLong, Refused, ReadFault, WriteFault, Ended, Written, Memory}
+use Rattle.ilc.specs.declared.refusal.Fault.TheVariants.{Spent as SpentFault, Trap as TrapFault}
+use Rattle.ilc.specs.declared.refusal.Field.TheVariants.{Number, Address, Cause as CauseField}
+use Rattle.ilc.specs.declared.refusal.Fields.TheVariants.{One, Two}
+use Rattle.ilc.specs.declared.refusal.Refusal.{Refusal}
 
 -- ---- reading a file
 
@@ -30,31 +34,50 @@ SameFiles before now = now.told ≡ before.told
 abbrev pub IsAsked : List ℕ → Option ℕ → StoreSeen → StoreSeen → Type 0
 IsAsked name answer before now = now.asked ≡ before.asked ++ (name, answer) ∷ []
 
--- A file of at most `limit` bytes was read whole. Where the store tells its files, these are its bytes.
+-- A file of at most `limit` bytes was read whole, once. Where the store tells its files, these are its bytes.
 pub record IsRead (name : List ℕ) (limit : ℕ) (bytes : List ℕ) (before now : StoreSeen) : Type 0 where
   pub content : (store : Store) → before.told ≡ Some store → get store name ≡ Some bytes
   pub size : ℕ
   pub asked : IsAsked name (Some size) before now
   pub whole : length bytes ≤ size
   pub within : size ≤ limit
+  pub pieces : ReadsInPieces size before.calls now.calls
 
 -- `size` gave no number for the file; where the store tells its files, the name isn't there
 pub record IsMissing (name : List ℕ) (before now : StoreSeen) : Type 0 where
   pub asked : IsAsked name None before now
   pub not_there : (store : Store) → before.told ≡ Some store → get store name ≡ None
+  pub calls : now.calls ≡ noted Size before.calls
 
 -- `size` gave a number above the limit; where the store tells its files, it is the size of the file
 pub record IsTooLong (name : List ℕ) (limit size : ℕ) (before now : StoreSeen) : Type 0 where
   pub asked : IsAsked name (Some size) before now
   pub above : limit < size
   pub its_size : (store : Store) → before.told ≡ Some store → size_of store name ≡ Some size
+  pub calls : now.calls ≡ noted Size before.calls
 
--- what a fault in reading the file that the word at an index names comes out as
-abbrev pub outcome_of_read : FileFault → ℕ → Outcome
-outcome_of_read Missing index = NoFile index
-outcome_of_read (FileTooLong size) index = TooLong size
-outcome_of_read Failed index = ReadFault
-outcome_of_read FileMemory index = Memory
+-- Of a reading that broke off, or was in vain: either `size` was refused, or it has answered once, and the file was
+-- read at most once.
+abbrev pub IsTried : List ℕ → ℕ → StoreSeen → StoreSeen → Type 0
+IsTried name limit before now =
+    ((now.asked ≡ before.asked) × MayNote Size before.calls now.calls)
+    ⊎ ((answer : Option ℕ) × IsAsked name answer before now × (unwrap_or answer 0 ≤ limit)
+    × ReadsInPieces (unwrap_or answer 0) before.calls now.calls)
+
+-- When each outcome comes of a file that wasn't read, or is refused by one of these stages. Want of memory may come at
+-- any time.
+abbrev pub NotTaken : List Stage → List ℕ → ℕ → StoreSeen → StoreSeen → Outcome → Type 0
+NotTaken stages name limit before now (NoFile file) = (file ≡ name) × IsMissing name before now
+NotTaken stages name limit before now (TooLong size) = IsTooLong name limit size before now
+NotTaken stages name limit before now ReadFault =
+    HasRisen before.read_faults now.read_faults × IsTried name limit before now
+NotTaken stages name limit before now (Refused refusal) =
+    (bytes : List ℕ) × IsRead name limit bytes before now × IsRefused stages name bytes refusal
+NotTaken stages name limit before now Memory = IsTried name limit before now
+NotTaken stages name limit before now (Usage index) = ⊥
+NotTaken stages name limit before now WriteFault = ⊥
+NotTaken stages name limit before now (Ended status) = ⊥
+NotTaken stages name limit before now Written = ⊥
 
 -- ---- `body FILE -o OUT`
 
@@ -62,51 +85,47 @@ outcome_of_read FileMemory index = Memory
 abbrev pub body_limit : ℕ
 body_limit = 16777216
 
--- the bytes of the file are no bare body, for this fault
-abbrev pub Refuses : List ℕ → StoreSeen → StoreSeen → BuildFault → Type 0
-Refuses file before now fault =
-    (bytes : List ℕ) × IsRead file body_limit bytes before now × NotBare bytes fault
-
--- what a fault of the bytes comes out as, of the file that the word at an index names
-abbrev pub outcome_of_build : BuildFault → ℕ → Outcome
-outcome_of_build (BuildFault.BadHeader offset) index = BadHeader index offset
-outcome_of_build (BuildFault.BadOpcode offset) index = BadOpcode offset
-outcome_of_build (BuildFault.BadTarget offset) index = BadTarget offset
-outcome_of_build (BuildFault.OpcodeOutside offset) index = OpcodeOutside offset
-outcome_of_build (BuildFault.Unverified offset) index = Unverified offset
-outcome_of_build BuildFault.Memory index = Memory
-
 -- a bare body was read from a file, and the executable file `elf` does what it does
 pub record IsBuilt (file elf : List ℕ) (before now : StoreSeen) : Type 0 where
   pub bytes : List ℕ
   pub read : IsRead file body_limit bytes before now
   pub builds : Builds bytes elf
+  pub same_files : SameFiles before now
+  pub write_faults : now.write_faults ≡ before.write_faults
 
--- When each outcome comes of a body that wasn't built. Want of memory may come at any time.
-abbrev pub NotBuilt : ℕ → List ℕ → StoreSeen → StoreSeen → Outcome → Type 0
-NotBuilt index file before now (NoFile word) = (word ≡ index) × IsMissing file before now
-NotBuilt index file before now (TooLong size) = IsTooLong file body_limit size before now
-NotBuilt index file before now ReadFault = HasRisen before.read_faults now.read_faults
-NotBuilt index file before now (BadHeader word offset) = (word ≡ index) × Refuses file before now (BuildFault.BadHeader offset)
-NotBuilt index file before now (BadOpcode offset) = Refuses file before now (BuildFault.BadOpcode offset)
-NotBuilt index file before now (BadTarget offset) = Refuses file before now (BuildFault.BadTarget offset)
-NotBuilt index file before now (OpcodeOutside offset) = Refuses file before now (BuildFault.OpcodeOutside offset)
-NotBuilt index file before now (Unverified offset) = Refuses file before now (BuildFault.Unverified offset)
-NotBuilt index file before now Memory = Unit {0}
-NotBuilt index file before now _ = ⊥
+-- of a writing that broke off, at `create` or at one of the appends
+abbrev pub HasBegun : ℕ → StoreSeen → StoreSeen → Type 0
+HasBegun size before now = (now.calls ≡ before.calls) ⊎ WritesInPieces size before.calls now.calls
 
 -- When each outcome comes of the bytes that are to be written to a file.
 abbrev pub WriteOutcome : List ℕ → List ℕ → StoreSeen → StoreSeen → Outcome → Type 0
-WriteOutcome out elf before now Written = now.told ≡ option_map (stored out elf) before.told
-WriteOutcome out elf before now WriteFault = HasRisen before.write_faults now.write_faults × IsPartlyStored out elf before.told now.told
-WriteOutcome out elf before now Memory = IsPartlyStored out elf before.told now.told
-WriteOutcome out elf before now _ = ⊥
+WriteOutcome out elf before now Written =
+    (now.told ≡ option_map (stored out elf) before.told) × WritesInPieces (length elf) before.calls now.calls
+WriteOutcome out elf before now WriteFault =
+    HasRisen before.write_faults now.write_faults × IsPartlyStored out elf before.told now.told
+    × HasBegun (length elf) before now
+WriteOutcome out elf before now Memory =
+    IsPartlyStored out elf before.told now.told × HasBegun (length elf) before now
+WriteOutcome out elf before now (Usage index) = ⊥
+WriteOutcome out elf before now (NoFile file) = ⊥
+WriteOutcome out elf before now (TooLong size) = ⊥
+WriteOutcome out elf before now (Refused refusal) = ⊥
+WriteOutcome out elf before now ReadFault = ⊥
+WriteOutcome out elf before now (Ended status) = ⊥
+
+-- a body was built, and its executable file was written or not; `size` wasn't asked again
+pub record IsTaken (file out : List ℕ) (before now : StoreSeen) (outcome : Outcome) : Type 0 where
+  pub elf : List ℕ
+  pub between : StoreSeen
+  pub built : IsBuilt file elf before between
+  pub writes : WriteOutcome out elf between now outcome
+  pub same_asked : now.asked ≡ between.asked
 
 -- Either the body wasn't built, and no file has changed, or it was, and its file was written or not.
-abbrev pub BodyOutcome : ℕ → List ℕ → List ℕ → StoreSeen → StoreSeen → Outcome → Type 0
-BodyOutcome index file out before now outcome =
-    (NotBuilt index file before now outcome × SameFiles before now)
-    ⊎ ((elf : List ℕ) × IsBuilt file elf before now × WriteOutcome out elf before now outcome)
+abbrev pub BodyOutcome : List ℕ → List ℕ → StoreSeen → StoreSeen → Outcome → Type 0
+BodyOutcome file out before now outcome =
+    (NotTaken body_stages file body_limit before now outcome × SameFiles before now)
+    ⊎ IsTaken file out before now outcome
 
 -- ---- `run ELF --steps N --count`
 
@@ -120,23 +139,14 @@ pub record IsLoaded (elf : List ℕ) (machine : MachineState) (before now : Stor
   pub read : IsRead elf elf_limit bytes before now
   pub loads : loaded bytes ≡ Ok machine
 
--- When each outcome comes of a file that wasn't loaded.
-abbrev pub NotLoaded : ℕ → List ℕ → StoreSeen → StoreSeen → Outcome → Type 0
-NotLoaded index elf before now (NoFile word) = (word ≡ index) × IsMissing elf before now
-NotLoaded index elf before now (TooLong size) = IsTooLong elf elf_limit size before now
-NotLoaded index elf before now ReadFault = HasRisen before.read_faults now.read_faults
-NotLoaded index elf before now (BadElf word place) =
-    (bytes : List ℕ) × IsRead elf elf_limit bytes before now × (word ≡ index) × (loaded bytes ≡ Err place)
-NotLoaded index elf before now Memory = Unit {0}
-NotLoaded index elf before now _ = ⊥
-
--- after so many steps within a limit the program has ended, and not before; no count of faults has fallen
+-- after so many steps within a limit the program has ended, and not before; no fault was counted
 pub record EndsWithin (machine : MachineState) (limit steps status : ℕ) (before now : StreamsSeen) : Type 0 where
   pub within : steps ≤ limit
-  pub ends : EndsAfter machine steps status before.outside now.outside
-  pub input_faults : before.input_faults ≤ now.input_faults
-  pub output_faults : before.output_faults ≤ now.output_faults
-  pub error_faults : before.error_faults ≤ now.error_faults
+  pub new : MachineState
+  pub ends : EndsAfter machine steps status new before.outside now.outside
+  pub input_faults : now.input_faults ≡ before.input_faults
+  pub output_faults : now.output_faults ≡ before.output_faults
+  pub error_faults : now.error_faults ≡ before.error_faults
 
 -- the line of the number of steps was printed, where it is to be
 abbrev pub IsCounted : Bool → ℕ → StreamsSeen → StreamsSeen → Type 0
@@ -155,37 +165,52 @@ SinkFails machine before now =
     (Asks machine (request 64 1) × HasRisen before.output_faults now.output_faults)
     ⊎ (Asks machine (request 64 2) × HasRisen before.error_faults now.error_faults)
 
+-- how it is told that a program goes on after so many steps, and that the machine can't do one
+abbrev pub spent : ℕ → Refusal
+spent steps = record { fault = SpentFault; fields = One (Number steps) }
+
+abbrev pub trapped : Trap → Refusal
+trapped trap = record { fault = TrapFault; fields = Two (Address trap.pc) (CauseField trap.cause) }
+
 -- When each outcome comes of a machine that does at most `limit` steps, and whose steps are counted or not.
 abbrev pub MachineOutcome : MachineState → ℕ → Bool → StreamsSeen → StreamsSeen → Outcome → Type 0
 MachineOutcome machine limit count before now (Ended status) =
-    (steps : ℕ) × (between : StreamsSeen) × EndsWithin machine limit steps status before between × IsCounted count steps between now
-MachineOutcome machine limit count before now (Spent steps) = (steps ≡ limit) × (new : MachineState) × GoesOn machine limit new before.outside now.outside
-MachineOutcome machine limit count before now (Trapped trap) = (new : MachineState) × TrapsWithin machine limit trap new before.outside now.outside
+    (steps : ℕ) × (between : StreamsSeen)
+    × EndsWithin machine limit steps status before between × IsCounted count steps between now
+MachineOutcome machine limit count before now (Refused refusal) =
+    ((refusal ≡ spent limit) × (new : MachineState) × GoesOn machine limit new before.outside now.outside)
+    ⊎ ((trap : Trap) × (refusal ≡ trapped trap) × (new : MachineState)
+    × TrapsWithin machine limit trap new before.outside now.outside)
 MachineOutcome machine limit count before now ReadFault =
     HasRisen before.input_faults now.input_faults
     × (new : MachineState) × ReadFailsWithin machine limit new before.outside now.outside
 MachineOutcome machine limit count before now WriteFault =
     ((new : MachineState) × SinkFails new before now × WriteFailsWithin machine limit new before.outside now.outside)
     ⊎ ((count ≡ true) × CountBreaksOff machine limit before now)
-MachineOutcome machine limit count before now _ = ⊥
+MachineOutcome machine limit count before now (Usage index) = ⊥
+MachineOutcome machine limit count before now (NoFile file) = ⊥
+MachineOutcome machine limit count before now (TooLong size) = ⊥
+MachineOutcome machine limit count before now Written = ⊥
+MachineOutcome machine limit count before now Memory = ⊥
 
 -- Either the file wasn't loaded, and the streams are as before, or its machine ran.
-abbrev pub RunOutcome : ℕ → List ℕ → ℕ → Bool → StoreSeen → StoreSeen → StreamsSeen → StreamsSeen → Outcome → Type 0
-RunOutcome index elf limit count before now streams streams' outcome =
-    (NotLoaded index elf before now outcome × (streams' ≡ streams))
-    ⊎ ((machine : MachineState) × IsLoaded elf machine before now × MachineOutcome machine limit count streams streams' outcome)
+abbrev pub RunOutcome : List ℕ → ℕ → Bool → StoreSeen → StoreSeen → StreamsSeen → StreamsSeen → Outcome → Type 0
+RunOutcome elf limit count before now streams streams' outcome =
+    (NotTaken elf_stages elf elf_limit before now outcome × (streams' ≡ streams))
+    ⊎ ((machine : MachineState) × IsLoaded elf machine before now
+    × MachineOutcome machine limit count streams streams' outcome)
 
 -- ---- any command
 
 -- With a bad word nothing is done; else the command's own outcomes.
-abbrev pub CommandOutcome : Result Command ℕ → List (List ℕ) → StoreSeen → StoreSeen → StreamsSeen → StreamsSeen → Outcome → Type 0
-CommandOutcome (Err index) words before now streams streams' outcome =
-    (outcome ≡ Usage index) × (now ≡ before) × (streams' ≡ streams)
-CommandOutcome (Ok (Body file out)) words before now streams streams' outcome =
-    BodyOutcome file (word_at words file) (word_at words out) before now outcome × (streams' ≡ streams)
-CommandOutcome (Ok (Run elf steps count)) words before now streams streams' outcome =
-    RunOutcome elf (word_at words elf) steps count before now streams streams' outcome × SameFiles before now
+abbrev pub CommandOutcome : Result Command ℕ → StoreSeen → StoreSeen → StreamsSeen → StreamsSeen → Outcome → Type 0
+CommandOutcome (Err index) before now streams streams' outcome =
+    ((outcome ≡ Usage index) ⊎ (outcome ≡ Memory)) × (now ≡ before) × (streams' ≡ streams)
+CommandOutcome (Ok (Body file out)) before now streams streams' outcome =
+    BodyOutcome file out before now outcome × (streams' ≡ streams)
+CommandOutcome (Ok (Run elf steps count)) before now streams streams' outcome =
+    RunOutcome elf steps count before now streams streams' outcome × SameFiles before now
 
 -- the cause of an outcome
 abbrev pub Cause : List (List ℕ) → StoreSeen → StoreSeen → StreamsSeen → StreamsSeen → Outcome → Type 0
-Cause words = CommandOutcome (command_of words) words
+Cause words = CommandOutcome (command_of words)

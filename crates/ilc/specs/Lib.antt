@@ -1,6 +1,10 @@
+pub mod Grammar
 pub mod Words
+pub mod Refusals
 pub mod Seen
 pub mod Line
 pub mod Printed
+pub mod Stages
+pub mod Reading
 pub mod Cause
 pub mod Answer

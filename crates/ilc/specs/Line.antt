@@ -1,37 +1,29 @@
 -- The status of each outcome, and the line that it prints.
-use Rattle.std.specs.Prelude.{ℕ, false, List, [], ◌∷◌, codes, decimal}
+use Rattle.std.specs.Prelude.{ℕ, false, List, [], ◌∷◌, ◌++◌, map, codes, decimal}
 use Rattle.std.specs.Fmt.{digits}
 use Rattle.std.specs.List.{flat_map}
-use Rattle.rv_step.specs.declared.trap.Cause.{Cause}
+use Rattle.rv_step.specs.declared.trap.Cause.{Cause as TrapCause}
 use Rattle.rv_step.specs.declared.trap.Cause.TheVariants.{Fetch, Load, Store, Illegal, Call}
-use Rattle.ilc.specs.Words.{word_at}
+use Rattle.ilc.specs.Refusals.{refusal_row, listed_fields}
 use Rattle.ilc.specs.declared.outcome.Outcome.{Outcome}
-use Rattle.ilc.specs.declared.outcome.Outcome.TheVariants.{Usage, NoFile, TooLong, BadHeader, BadOpcode, BadTarget, OpcodeOutside, Unverified, BadElf, ReadFault, WriteFault, Spent, Trapped, Ended, Written, Memory}
+use Rattle.ilc.specs.declared.outcome.Outcome.TheVariants.{Usage, NoFile, TooLong, Refused, ReadFault, WriteFault, Ended, Written, Memory}
+use Rattle.ilc.specs.declared.refusal.Fault.{Fault}
+use Rattle.ilc.specs.declared.refusal.Field.{Field}
+use Rattle.ilc.specs.declared.refusal.Field.TheVariants.{Text, Number, Address, Cause}
 
 -- what the process ends with
 abbrev pub status_of : Outcome → ℕ
 status_of Written = 0
 status_of (Ended status) = status
 status_of (Usage index) = 64
-status_of (NoFile word) = 66
-status_of (BadHeader word offset) = 65
-status_of (BadOpcode offset) = 65
-status_of (BadTarget offset) = 65
-status_of (BadElf word place) = 65
-status_of (OpcodeOutside offset) = 69
-status_of (Unverified offset) = 70
+status_of (NoFile name) = 66
 status_of (TooLong size) = 71
+status_of (Refused refusal) = (refusal_row refusal.fault).status
 status_of WriteFault = 73
 status_of ReadFault = 74
 status_of Memory = 75
-status_of (Spent steps) = 124
-status_of (Trapped trap) = 132
 
--- the one method of a bare body
-abbrev pub body_method : List ℕ
-body_method = codes "[body]Body::Main()->System.Int32"
-
-abbrev pub cause_name : Cause → List ℕ
+abbrev pub cause_name : TrapCause → List ℕ
 cause_name Fetch = codes "fetch"
 cause_name Load = codes "load"
 cause_name Store = codes "store"
@@ -42,34 +34,37 @@ cause_name Call = codes "call"
 abbrev pub hexadecimal : ℕ → List ℕ
 hexadecimal n = digits 16 false n
 
-abbrev pub newline : List ℕ
-newline = codes "\n"
+-- a field of a refusal, as it is printed
+abbrev pub field_text : Field → List ℕ
+field_text (Text text) = text
+field_text (Number number) = decimal number
+field_text (Address number) = hexadecimal number
+field_text (Cause cause) = cause_name cause
 
--- The line of an outcome, in its parts. A program that has ended, and a file that was written, have none.
-abbrev pub line_parts : List (List ℕ) → Outcome → List (List ℕ)
-line_parts words Written = []
-line_parts words (Ended status) = []
-line_parts words (Usage index) = codes "ilc: usage " ∷ decimal index ∷ newline ∷ []
-line_parts words (NoFile word) = codes "ilc: nofile " ∷ word_at words word ∷ newline ∷ []
-line_parts words ReadFault = codes "ilc: read fault\n" ∷ []
-line_parts words WriteFault = codes "ilc: write fault\n" ∷ []
-line_parts words (BadHeader word offset) = codes "ilc: 9 BadHeader " ∷ word_at words word ∷ codes " " ∷ decimal offset ∷ newline ∷ []
-line_parts words (BadElf word place) = codes "ilc: 30 BadElf " ∷ word_at words word ∷ codes " " ∷ decimal place ∷ newline ∷ []
-line_parts words (BadOpcode offset) = codes "ilc: 10 BadOpcode " ∷ body_method ∷ codes " " ∷ decimal offset ∷ newline ∷ []
-line_parts words (BadTarget offset) = codes "ilc: 11 BadTarget " ∷ body_method ∷ codes " " ∷ decimal offset ∷ newline ∷ []
-line_parts words (OpcodeOutside offset) = codes "ilc: 24 OpcodeOutside " ∷ body_method ∷ codes " " ∷ decimal offset ∷ newline ∷ []
-line_parts words (Unverified offset) = codes "ilc: 20 Unverified " ∷ body_method ∷ codes " " ∷ decimal offset ∷ newline ∷ []
-line_parts words (TooLong size) = codes "ilc: limit file " ∷ decimal size ∷ newline ∷ []
-line_parts words (Spent steps) = codes "ilc: 21 Spent " ∷ decimal steps ∷ newline ∷ []
-line_parts words (Trapped trap) = codes "ilc: 29 Trap " ∷ hexadecimal trap.pc ∷ codes " " ∷ cause_name trap.cause ∷ newline ∷ []
-line_parts words Memory = codes "ilc: memory\n" ∷ []
+-- words, each behind a space
+abbrev pub words : List (List ℕ) → List ℕ
+words written = flat_map (λ word. codes " " ++ word) written
 
-abbrev pub line_of : List (List ℕ) → Outcome → List ℕ
-line_of words outcome = flat_map (λ part. part) (line_parts words outcome)
+-- a line of the program: its name, words and the end of the line
+abbrev pub line : List (List ℕ) → List ℕ
+line written = codes "ilc:" ++ (words written ++ codes "\n")
 
--- what `--count` prints of a number of machine steps, in its parts
-abbrev pub count_parts : ℕ → List (List ℕ)
-count_parts steps = codes "steps " ∷ decimal steps ∷ newline ∷ []
+-- the line of a refusal for a fault, with these fields
+abbrev pub refusal_line : Fault → List (List ℕ) → List ℕ
+refusal_line fault fields = line (decimal (refusal_row fault).number ∷ (refusal_row fault).name ∷ fields)
 
+-- The line of an outcome. A program that has ended, and a file that was written, have none.
+abbrev pub line_of : Outcome → List ℕ
+line_of Written = []
+line_of (Ended status) = []
+line_of (Usage index) = line (codes "usage" ∷ decimal index ∷ [])
+line_of (NoFile name) = line (codes "nofile" ∷ name ∷ [])
+line_of (TooLong size) = line (codes "limit" ∷ codes "file" ∷ decimal size ∷ [])
+line_of ReadFault = line (codes "read" ∷ codes "fault" ∷ [])
+line_of WriteFault = line (codes "write" ∷ codes "fault" ∷ [])
+line_of Memory = line (codes "memory" ∷ [])
+line_of (Refused refusal) = refusal_line refusal.fault (map field_text (listed_fields refusal.fields))
+
+-- what `--count` prints of a number of machine steps
 abbrev pub count_line : ℕ → List ℕ
-count_line steps = flat_map (λ part. part) (count_parts steps)
+count_line steps = codes "steps " ++ (decimal steps ++ codes "\n")

@@ -2,15 +2,21 @@
 #![tactic(auto)]
 
 mod command;
+mod grammar;
+pub mod laws;
 mod outcome;
 mod perform;
+mod reading;
+mod refusal;
 mod report;
 mod top;
 
 pub use command::Command;
+pub use grammar::{Argument, CommandName, CommandOption, Item};
 use ilc_io::{HostFiles, StreamSink, StreamSource};
 use num_core::{List, Memory, Text, TextFault};
 pub use outcome::Outcome;
+pub use refusal::{Fault, Field, Fields, Refusal};
 use std::alloc::Global;
 use std::env::{Env, FillError};
 use std::process::ExitCode;
@@ -26,7 +32,7 @@ fn main(rt: HostRuntime) -> ExitCode {
     let mut out = StreamSink::new(rt.stdout());
     let mut err = StreamSink::new(rt.stderr());
     let Ok(words) = command_line(&rt, alloc) else {
-        let _ = report::report(&mut err, &[], &Outcome::Memory);
+        let _ = report::report(&mut err, &Outcome::Memory);
         return ExitCode::from(Outcome::Memory.status());
     };
     ExitCode::from(ilc(

@@ -1,10 +1,14 @@
-ghost use Rattle.std.specs.Prelude.{◌≡◌, ◌<◌, ◌≤◌, length, IfOk, IfErr};
-ghost use Rattle.ilc.specs.Words.{word_at};
+ghost use Rattle.std.specs.Prelude.{◌≡◌, ℕ, List, ◌<◌, ◌≤◌, length, IfOk, IfErr};
 ghost use Rattle.ilc.specs.Seen.{store_seen, streams_seen};
-ghost use Rattle.ilc.specs.Cause.{NotBuilt, IsBuilt, WriteOutcome, BodyOutcome, NotLoaded, IsLoaded, MachineOutcome, Cause, outcome_of_read, outcome_of_build};
+ghost use Rattle.ilc.specs.Cause.{NotTaken, IsRead, IsBuilt, WriteOutcome, BodyOutcome, IsLoaded, MachineOutcome, Cause};
+ghost use Rattle.ilc.specs.Stages.{Stage, body_stages, elf_stages, fault_at, body_method as body_method_text};
+ghost use Rattle.ilc.specs.Reading.{IsRefusedBy, IsOrMemory, ReadGives};
+ghost use Rattle.ilc.specs.declared.outcome.Outcome.TheVariants.{Refused};
 
 use crate::command::{Command, parse_command};
 use crate::outcome::Outcome;
+use crate::reading::{WordsFault, copied};
+use crate::refusal::{Fault, Field, Fields, Refusal};
 use crate::report::report_count;
 use elf_file::{ElfFault, load_elf};
 use ilc_build::{BuildFault, build_body};
@@ -29,138 +33,177 @@ pub(crate) fn perform<F: Files, I: Source, O: Sink, E: Sink>(
     err: &mut E,
 ) -> Outcome
     ensures { Cause words.now
-        (store_seen (F.told files.old) (F.asked files.old) (F.read_faults files.old) (F.write_faults files.old))
-        (store_seen (F.told files.new) (F.asked files.new) (F.read_faults files.new) (F.write_faults files.new))
-        (streams_seen (I.rest input.old) (O.written out.old) (E.written err.old) (I.faults input.old) (O.faults out.old) (E.faults err.old))
-        (streams_seen (I.rest input.new) (O.written out.new) (E.written err.new) (I.faults input.new) (O.faults out.new) (E.faults err.new))
+        (store_seen (F.told files.old) (F.asked files.old) (F.calls files.old) (F.read_faults files.old)
+        (F.write_faults files.old))
+        (store_seen (F.told files.new) (F.asked files.new) (F.calls files.new) (F.read_faults files.new)
+        (F.write_faults files.new))
+        (streams_seen (I.rest input.old) (O.written out.old) (E.written err.old) (I.faults input.old)
+        (O.faults out.old) (E.faults err.old))
+        (streams_seen (I.rest input.new) (O.written out.new) (E.written err.new) (I.faults input.new)
+        (O.faults out.new) (E.faults err.new))
         result }
 {
-    match parse_command(words) {
-        Err(index) => Outcome::Usage { index },
-        Ok(Command::Body { file, out: target }) => body(alloc, files, words, file, target),
-        Ok(Command::Run { elf, steps, count }) => match load_named(alloc, files, words, elf) {
+    match parse_command(alloc, words) {
+        Err(WordsFault::Wrong(index)) => Outcome::Usage { index },
+        Err(WordsFault::Memory) => Outcome::Memory,
+        Ok(Command::Body { file, out: target }) => body(alloc, files, &file, &target),
+        Ok(Command::Run { elf, steps, count }) => match load(alloc, files, &elf) {
             Ok(mut machine) => run(&mut machine, input, out, err, steps, count),
             Err(outcome) => outcome,
         },
     }
 }
 
-/// Builds the body in the file that the word `file` names, and writes the executable to the one that `out` names.
-fn body<F: Files>(alloc: Global, files: &mut F, words: &[Text], file: usize, out: usize) -> Outcome
-    requires file { file < length words.now }
-    requires out { out < length words.now }
-    ensures { BodyOutcome file (word_at words.now file) (word_at words.now out)
-        (store_seen (F.told files.old) (F.asked files.old) (F.read_faults files.old) (F.write_faults files.old))
-        (store_seen (F.told files.new) (F.asked files.new) (F.read_faults files.new) (F.write_faults files.new))
+/// Builds the body in a file, and writes the executable to another.
+fn body<F: Files>(alloc: Global, files: &mut F, file: &Text, out: &Text) -> Outcome
+    ensures { BodyOutcome file.now out.now
+        (store_seen (F.told files.old) (F.asked files.old) (F.calls files.old) (F.read_faults files.old)
+        (F.write_faults files.old))
+        (store_seen (F.told files.new) (F.asked files.new) (F.calls files.new) (F.read_faults files.new)
+        (F.write_faults files.new))
         result }
 {
-    match build(alloc, files, words, file) {
-        Ok(elf) => write_named(files, words, out, elf.as_slice()),
+    match build(alloc, files, file) {
+        Ok(elf) => write(files, out, elf.as_slice()),
         Err(outcome) => outcome,
     }
 }
 
-/// Builds the body in the file that the word `file` names.
-fn build<F: Files>(
-    alloc: Global,
-    files: &mut F,
-    words: &[Text],
-    file: usize,
-) -> Result<Bytes, Outcome>
-    requires { file < length words.now }
-    ensures built { IfOk result (λ elf. IsBuilt (word_at words.now file) elf
-        (store_seen (F.told files.old) (F.asked files.old) (F.read_faults files.old) (F.write_faults files.old))
-        (store_seen (F.told files.new) (F.asked files.new) (F.read_faults files.new) (F.write_faults files.new))) }
-    ensures refused { IfErr result (NotBuilt file (word_at words.now file)
-        (store_seen (F.told files.old) (F.asked files.old) (F.read_faults files.old) (F.write_faults files.old))
-        (store_seen (F.told files.new) (F.asked files.new) (F.read_faults files.new) (F.write_faults files.new))) }
+/// Builds the body in a file.
+fn build<F: Files>(alloc: Global, files: &mut F, file: &Text) -> Result<Bytes, Outcome>
+    ensures built { IfOk result (λ elf. IsBuilt file.now elf
+        (store_seen (F.told files.old) (F.asked files.old) (F.calls files.old) (F.read_faults files.old)
+        (F.write_faults files.old))
+        (store_seen (F.told files.new) (F.asked files.new) (F.calls files.new) (F.read_faults files.new)
+        (F.write_faults files.new))) }
+    ensures refused { IfErr result (NotTaken body_stages file.now BODY_LIMIT
+        (store_seen (F.told files.old) (F.asked files.old) (F.calls files.old) (F.read_faults files.old)
+        (F.write_faults files.old))
+        (store_seen (F.told files.new) (F.asked files.new) (F.calls files.new) (F.read_faults files.new)
+        (F.write_faults files.new))) }
     ensures same_files { F.told files.new ≡ F.told files.old }
-    ensures write_faults_kept { F.write_faults files.old ≤ F.write_faults files.new }
 {
-    let bytes = match read_file(alloc, files, named(words, file), BODY_LIMIT) {
+    let bytes = match read(alloc, files, file, BODY_LIMIT) {
         Ok(bytes) => bytes,
-        Err(fault) => return Err(read_outcome(fault, file)),
+        Err(outcome) => return Err(outcome),
     };
     match build_body(alloc, bytes.as_slice()) {
         Ok(elf) => Ok(elf),
-        Err(fault) => Err(build_outcome(fault, file)),
+        Err(fault) => Err(build_outcome(alloc, fault, file)),
     }
 }
 
-/// The word at an index.
-fn named(words: &[Text], index: usize) -> &Text
-    requires { index < length words.now }
-    ensures { result.now ≡ word_at words.now index }
+/// Loads an executable file.
+fn load<F: Files>(alloc: Global, files: &mut F, elf: &Text) -> Result<Machine, Outcome>
+    ensures loaded { IfOk result (λ machine. IsLoaded elf.now machine
+        (store_seen (F.told files.old) (F.asked files.old) (F.calls files.old) (F.read_faults files.old)
+        (F.write_faults files.old))
+        (store_seen (F.told files.new) (F.asked files.new) (F.calls files.new) (F.read_faults files.new)
+        (F.write_faults files.new))) }
+    ensures refused { IfErr result (NotTaken elf_stages elf.now ELF_LIMIT
+        (store_seen (F.told files.old) (F.asked files.old) (F.calls files.old) (F.read_faults files.old)
+        (F.write_faults files.old))
+        (store_seen (F.told files.new) (F.asked files.new) (F.calls files.new) (F.read_faults files.new)
+        (F.write_faults files.new))) }
+    ensures same_files { F.told files.new ≡ F.told files.old }
 {
-    &words[index]
+    let content = match read(alloc, files, elf, ELF_LIMIT) {
+        Ok(content) => content,
+        Err(outcome) => return Err(outcome),
+    };
+    match load_elf(alloc, content.as_slice()) {
+        Ok(machine) => Ok(machine),
+        Err(ElfFault::BadElf(place)) => Err(refused(alloc, Fault::BadElf, elf.bytes(), place)),
+        Err(ElfFault::Memory) => Err(Outcome::Memory),
+    }
 }
 
-/// The outcome of a file that wasn't read, which the word at an index names.
-fn read_outcome(fault: FileFault, word: usize) -> Outcome
-    ensures { result ≡ outcome_of_read fault word }
+/// Reads a whole file.
+fn read<F: Files>(alloc: Global, files: &mut F, name: &Text, limit: u64) -> Result<Bytes, Outcome>
+    ensures read { IfOk result (λ bytes. IsRead name.now limit bytes
+        (store_seen (F.told files.old) (F.asked files.old) (F.calls files.old) (F.read_faults files.old)
+        (F.write_faults files.old))
+        (store_seen (F.told files.new) (F.asked files.new) (F.calls files.new) (F.read_faults files.new)
+        (F.write_faults files.new))) }
+    ensures not_read { (stages : List Stage) → IfErr result (NotTaken stages name.now limit
+        (store_seen (F.told files.old) (F.asked files.old) (F.calls files.old) (F.read_faults files.old)
+        (F.write_faults files.old))
+        (store_seen (F.told files.new) (F.asked files.new) (F.calls files.new) (F.read_faults files.new)
+        (F.write_faults files.new))) }
+    ensures same_files { F.told files.new ≡ F.told files.old }
+    ensures same_write_faults { F.write_faults files.new ≡ F.write_faults files.old }
+{
+    match read_file(alloc, files, name, limit) {
+        Ok(bytes) => Ok(bytes),
+        Err(fault) => Err(read_outcome(alloc, fault, name)),
+    }
+}
+
+/// The outcome of a file that wasn't read.
+fn read_outcome(alloc: Global, fault: FileFault, name: &Text) -> Outcome
+    ensures { ReadGives fault name.now result }
 {
     match fault {
-        FileFault::Missing => Outcome::NoFile { word },
+        FileFault::Missing => match copied(alloc, name.bytes()) {
+            Ok(name) => Outcome::NoFile { name },
+            Err(_) => Outcome::Memory,
+        },
         FileFault::TooLong(size) => Outcome::TooLong { size },
         FileFault::Failed => Outcome::ReadFault,
         FileFault::Memory => Outcome::Memory,
     }
 }
 
-/// The outcome of a file that isn't built, which the word at an index names.
-fn build_outcome(fault: BuildFault, word: usize) -> Outcome
-    ensures { result ≡ outcome_of_build fault word }
+/// The outcome of a file that isn't built.
+fn build_outcome(alloc: Global, fault: BuildFault, file: &Text) -> Outcome
+    ensures { (bytes : List ℕ) → IsRefusedBy bytes file.now fault result }
 {
     match fault {
-        BuildFault::BadHeader(offset) => Outcome::BadHeader { word, offset },
-        BuildFault::BadOpcode(offset) => Outcome::BadOpcode { offset },
-        BuildFault::BadTarget(offset) => Outcome::BadTarget { offset },
-        BuildFault::OpcodeOutside(offset) => Outcome::OpcodeOutside { offset },
-        BuildFault::Unverified(offset) => Outcome::Unverified { offset },
+        BuildFault::BadHeader(at) => refused(alloc, Fault::BadHeader, file.bytes(), at as u64),
+        BuildFault::BadOpcode(at) => refused(alloc, Fault::BadOpcode, body_method(), at as u64),
+        BuildFault::BadTarget(at) => refused(alloc, Fault::BadTarget, body_method(), at as u64),
+        BuildFault::OpcodeOutside(at) => {
+            refused(alloc, Fault::OpcodeOutside, body_method(), at as u64)
+        }
+        BuildFault::Unverified(at) => refused(alloc, Fault::Unverified, body_method(), at as u64),
         BuildFault::Memory => Outcome::Memory,
     }
 }
 
-/// Writes an executable to the file that the word `out` names.
-fn write_named<F: Files>(files: &mut F, words: &[Text], out: usize, elf: &[u8]) -> Outcome
-    requires { out < length words.now }
-    ensures outcome { WriteOutcome (word_at words.now out) elf.now
-        (store_seen (F.told files.old) (F.asked files.old) (F.read_faults files.old) (F.write_faults files.old))
-        (store_seen (F.told files.new) (F.asked files.new) (F.read_faults files.new) (F.write_faults files.new))
-        result }
-    ensures same_asked { F.asked files.new ≡ F.asked files.old }
+/// The one method of a bare body.
+fn body_method() -> &'static [u8]
+    ensures { result.now ≡ body_method_text }
 {
-    match write_file(files, named(words, out), elf) {
-        Ok(()) => Outcome::Written,
-        Err(FileFault::Failed) => Outcome::WriteFault,
+    b"[body]Body::Main()->System.Int32"
+}
+
+/// The refusal for a fault at a place of what has this text.
+fn refused(alloc: Global, fault: Fault, text: &[u8], place: u64) -> Outcome
+    ensures { IsOrMemory (Refused (fault_at fault text.now place)) result }
+{
+    match copied(alloc, text) {
+        Ok(text) => Outcome::Refused(Refusal {
+            fault,
+            fields: Fields::Two(Field::Text(text), Field::Number(place)),
+        }),
         Err(_) => Outcome::Memory,
     }
 }
 
-/// Loads the executable file that the word `elf` names.
-fn load_named<F: Files>(
-    alloc: Global,
-    files: &mut F,
-    words: &[Text],
-    elf: usize,
-) -> Result<Machine, Outcome>
-    requires { elf < length words.now }
-    ensures loaded { IfOk result (λ machine. IsLoaded (word_at words.now elf) machine
-        (store_seen (F.told files.old) (F.asked files.old) (F.read_faults files.old) (F.write_faults files.old))
-        (store_seen (F.told files.new) (F.asked files.new) (F.read_faults files.new) (F.write_faults files.new))) }
-    ensures refused { IfErr result (NotLoaded elf (word_at words.now elf)
-        (store_seen (F.told files.old) (F.asked files.old) (F.read_faults files.old) (F.write_faults files.old))
-        (store_seen (F.told files.new) (F.asked files.new) (F.read_faults files.new) (F.write_faults files.new))) }
-    ensures same_files { F.told files.new ≡ F.told files.old }
+/// Writes an executable to a file.
+fn write<F: Files>(files: &mut F, out: &Text, elf: &[u8]) -> Outcome
+    ensures outcome { WriteOutcome out.now elf.now
+        (store_seen (F.told files.old) (F.asked files.old) (F.calls files.old) (F.read_faults files.old)
+        (F.write_faults files.old))
+        (store_seen (F.told files.new) (F.asked files.new) (F.calls files.new) (F.read_faults files.new)
+        (F.write_faults files.new))
+        result }
+    ensures same_asked { F.asked files.new ≡ F.asked files.old }
 {
-    let bytes = match read_file(alloc, files, named(words, elf), ELF_LIMIT) {
-        Ok(bytes) => bytes,
-        Err(fault) => return Err(read_outcome(fault, elf)),
-    };
-    match load_elf(alloc, bytes.as_slice()) {
-        Ok(machine) => Ok(machine),
-        Err(ElfFault::BadElf(place)) => Err(Outcome::BadElf { word: elf, place }),
-        Err(ElfFault::Memory) => Err(Outcome::Memory),
+    match write_file(files, out, elf) {
+        Ok(()) => Outcome::Written,
+        Err(FileFault::Failed) => Outcome::WriteFault,
+        Err(_) => Outcome::Memory,
     }
 }
 
@@ -174,8 +217,10 @@ fn run<I: Source, O: Sink, E: Sink>(
     count: bool,
 ) -> Outcome
     ensures { MachineOutcome machine.old steps count
-        (streams_seen (I.rest input.old) (O.written out.old) (E.written err.old) (I.faults input.old) (O.faults out.old) (E.faults err.old))
-        (streams_seen (I.rest input.new) (O.written out.new) (E.written err.new) (I.faults input.new) (O.faults out.new) (E.faults err.new))
+        (streams_seen (I.rest input.old) (O.written out.old) (E.written err.old) (I.faults input.old)
+        (O.faults out.old) (E.faults err.old))
+        (streams_seen (I.rest input.new) (O.written out.new) (E.written err.new) (I.faults input.new)
+        (O.faults out.new) (E.faults err.new))
         result }
 {
     match machine.run(input, out, err, steps) {
@@ -184,8 +229,14 @@ fn run<I: Source, O: Sink, E: Sink>(
             Ok(()) => Outcome::Ended { status: ran.status },
             Err(_) => Outcome::WriteFault,
         },
-        Err(RunFault::Spent(steps)) => Outcome::Spent { steps },
-        Err(RunFault::Trap(trap)) => Outcome::Trapped(trap),
+        Err(RunFault::Spent(steps)) => Outcome::Refused(Refusal {
+            fault: Fault::Spent,
+            fields: Fields::One(Field::Number(steps)),
+        }),
+        Err(RunFault::Trap(trap)) => Outcome::Refused(Refusal {
+            fault: Fault::Trap,
+            fields: Fields::Two(Field::Address(trap.pc), Field::Cause(trap.cause)),
+        }),
         Err(RunFault::ReadFault) => Outcome::ReadFault,
         Err(RunFault::WriteFault) => Outcome::WriteFault,
     }

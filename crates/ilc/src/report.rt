@@ -1,84 +1,106 @@
-ghost use Rattle.std.specs.Prelude.{◌≡◌, ◌+◌, ◌<◌, ◌≤◌, false, length, take, drop, IfOk, OnOk, OnErr, decimal as decimal_digits};
+ghost use Rattle.std.specs.Prelude.{◌≡◌, ◌+◌, ◌<◌, ◌≤◌, ◌++◌, false, codes, length, take, drop, map, IfOk, OnOk, OnErr, decimal as decimal_digits};
 ghost use Rattle.std.specs.Fmt.{digit_glyph};
-ghost use Rattle.ilc.specs.Words.{word_at};
 ghost use Rattle.std.specs.List.{flat_map};
 ghost use Rattle.ilc_io.specs.Count.{HasRisen};
-ghost use Rattle.ilc.specs.Line.{line_of, count_line, hexadecimal, cause_name as name_of_cause, body_method as body_method_name};
+ghost use Rattle.ilc.specs.Line.{line, words, line_of, refusal_line, count_line, hexadecimal, field_text, cause_name as name_of_cause};
+ghost use Rattle.ilc.specs.Refusals.{listed_fields};
 ghost use Rattle.ilc.specs.Printed.{Adds, AddsFront};
 
 use crate::outcome::Outcome;
+use crate::refusal::{Field, Fields, Refusal};
 use ilc_io::{Failed, Sink};
 use itoa::Buffer;
-use num_core::Text;
 use rv_step::Cause;
 
 /// Prints the line of an outcome, if it has one. A refused write breaks it off.
-pub(crate) fn report<S: Sink>(sink: &mut S, words: &[Text], outcome: &Outcome) -> Result<(), Failed>
-    ensures printed { OnOk result (Adds (line_of words.now outcome.now) (S.written sink.old) (S.written sink.new)) }
-    ensures broken_off { OnErr result (AddsFront (line_of words.now outcome.now) (S.written sink.old) (S.written sink.new)) }
+pub(crate) fn report<S: Sink>(sink: &mut S, outcome: &Outcome) -> Result<(), Failed>
+    ensures printed { OnOk result (Adds (line_of outcome.now) (S.written sink.old) (S.written sink.new)) }
+    ensures broken_off { OnErr result (AddsFront (line_of outcome.now) (S.written sink.old) (S.written sink.new)) }
     ensures failed { OnErr result (HasRisen (S.faults sink.old) (S.faults sink.new)) }
     ensures faults_kept { S.faults sink.old ≤ S.faults sink.new }
 {
     let mut number = Buffer::new();
-    match *outcome {
+    match outcome {
         Outcome::Written | Outcome::Ended { .. } => write_pieces(sink, &[]),
-        Outcome::Memory => write_pieces(sink, &[b"ilc: memory\n"]),
-        Outcome::ReadFault => write_pieces(sink, &[b"ilc: read fault\n"]),
-        Outcome::WriteFault => write_pieces(sink, &[b"ilc: write fault\n"]),
+        Outcome::Memory => write_line(sink, &[b"memory"]),
+        Outcome::ReadFault => write_line(sink, &[b"read", b"fault"]),
+        Outcome::WriteFault => write_line(sink, &[b"write", b"fault"]),
         Outcome::Usage { index } => {
-            let index = decimal(&mut number, index as u64);
-            write_pieces(sink, &[b"ilc: usage ", index, b"\n"])
+            let index = decimal(&mut number, *index as u64);
+            write_line(sink, &[b"usage", index])
         }
+        Outcome::NoFile { name } => write_line(sink, &[b"nofile", name.bytes()]),
         Outcome::TooLong { size } => {
-            let size = decimal(&mut number, size);
-            write_pieces(sink, &[b"ilc: limit file ", size, b"\n"])
+            let size = decimal(&mut number, *size);
+            write_line(sink, &[b"limit", b"file", size])
         }
-        Outcome::Spent { steps } => {
-            let steps = decimal(&mut number, steps);
-            write_pieces(sink, &[b"ilc: 21 Spent ", steps, b"\n"])
+        Outcome::Refused(refusal) => report_refusal(sink, refusal),
+    }
+}
+
+/// Prints the line of a refusal.
+fn report_refusal<S: Sink>(sink: &mut S, refusal: &Refusal) -> Result<(), Failed>
+    ensures printed { OnOk result
+        (Adds (refusal_line refusal.now.fault (map field_text (listed_fields refusal.now.fields)))
+        (S.written sink.old) (S.written sink.new)) }
+    ensures broken_off { OnErr result
+        (AddsFront (refusal_line refusal.now.fault (map field_text (listed_fields refusal.now.fields)))
+        (S.written sink.old) (S.written sink.new)) }
+    ensures failed { OnErr result (HasRisen (S.faults sink.old) (S.faults sink.new)) }
+    ensures faults_kept { S.faults sink.old ≤ S.faults sink.new }
+{
+    let mut digits = Buffer::new();
+    let number = decimal(&mut digits, refusal.fault.row().number);
+    let name = refusal.fault.name();
+    write_pieces(sink, &[b"ilc: ", number, b" ", name])?;
+    write_fields(sink, &refusal.fields)?;
+    write_all(sink, b"\n")
+}
+
+/// Writes the fields of a refusal, each behind a space.
+fn write_fields<S: Sink>(sink: &mut S, fields: &Fields) -> Result<(), Failed>
+    ensures printed { OnOk result (Adds (words (map field_text (listed_fields fields.now)))
+        (S.written sink.old) (S.written sink.new)) }
+    ensures broken_off { OnErr result (AddsFront (words (map field_text (listed_fields fields.now)))
+        (S.written sink.old) (S.written sink.new)) }
+    ensures failed { OnErr result (HasRisen (S.faults sink.old) (S.faults sink.new)) }
+    ensures faults_kept { S.faults sink.old ≤ S.faults sink.new }
+{
+    match fields {
+        Fields::None => write_all(sink, b""),
+        Fields::One(first) => write_field(sink, first),
+        Fields::Two(first, second) => {
+            write_field(sink, first)?;
+            write_field(sink, second)
         }
-        Outcome::NoFile { word } => {
-            write_pieces(sink, &[b"ilc: nofile ", name(words, word), b"\n"])
+        Fields::Three(first, second, third) => {
+            write_field(sink, first)?;
+            write_field(sink, second)?;
+            write_field(sink, third)
         }
-        Outcome::BadHeader { word, offset } => {
-            let offset = decimal(&mut number, offset as u64);
-            let name = name(words, word);
-            write_pieces(sink, &[b"ilc: 9 BadHeader ", name, b" ", offset, b"\n"])
+    }
+}
+
+/// Writes a field of a refusal behind a space.
+fn write_field<S: Sink>(sink: &mut S, field: &Field) -> Result<(), Failed>
+    ensures printed { OnOk result (Adds (codes " " ++ field_text field.now)
+        (S.written sink.old) (S.written sink.new)) }
+    ensures broken_off { OnErr result (AddsFront (codes " " ++ field_text field.now)
+        (S.written sink.old) (S.written sink.new)) }
+    ensures failed { OnErr result (HasRisen (S.faults sink.old) (S.faults sink.new)) }
+    ensures faults_kept { S.faults sink.old ≤ S.faults sink.new }
+{
+    match field {
+        Field::Text(text) => write_word(sink, text.bytes()),
+        Field::Number(number) => {
+            let mut digits = Buffer::new();
+            write_word(sink, decimal(&mut digits, *number))
         }
-        Outcome::BadElf { word, place } => {
-            let place = decimal(&mut number, place);
-            let name = name(words, word);
-            write_pieces(sink, &[b"ilc: 30 BadElf ", name, b" ", place, b"\n"])
+        Field::Address(number) => {
+            let (digits, at) = hex(*number);
+            write_word(sink, &digits[at..])
         }
-        Outcome::BadOpcode { offset } => {
-            let offset = decimal(&mut number, offset as u64);
-            let method = body_method();
-            write_pieces(sink, &[b"ilc: 10 BadOpcode ", method, b" ", offset, b"\n"])
-        }
-        Outcome::BadTarget { offset } => {
-            let offset = decimal(&mut number, offset as u64);
-            let method = body_method();
-            write_pieces(sink, &[b"ilc: 11 BadTarget ", method, b" ", offset, b"\n"])
-        }
-        Outcome::OpcodeOutside { offset } => {
-            let offset = decimal(&mut number, offset as u64);
-            let method = body_method();
-            write_pieces(
-                sink,
-                &[b"ilc: 24 OpcodeOutside ", method, b" ", offset, b"\n"],
-            )
-        }
-        Outcome::Unverified { offset } => {
-            let offset = decimal(&mut number, offset as u64);
-            let method = body_method();
-            write_pieces(sink, &[b"ilc: 20 Unverified ", method, b" ", offset, b"\n"])
-        }
-        Outcome::Trapped(trap) => {
-            let (digits, at) = hex(trap.pc);
-            let pc = &digits[at..];
-            let cause = cause_name(trap.cause);
-            write_pieces(sink, &[b"ilc: 29 Trap ", pc, b" ", cause, b"\n"])
-        }
+        Field::Cause(cause) => write_word(sink, cause_name(*cause)),
     }
 }
 
@@ -101,16 +123,6 @@ pub(crate) fn decimal(buffer: &mut Buffer, number: u64) -> &[u8]
     buffer.format(number).as_bytes()
 }
 
-/// The word at an index, or no bytes past the last.
-fn name(words: &[Text], word: usize) -> &[u8]
-    ensures { result.now ≡ word_at words.now word }
-{
-    match words.get(word) {
-        Some(word) => word.bytes(),
-        None => &[],
-    }
-}
-
 fn cause_name(cause: Cause) -> &'static [u8]
     ensures { result.now ≡ name_of_cause cause }
 {
@@ -121,13 +133,6 @@ fn cause_name(cause: Cause) -> &'static [u8]
         Cause::Illegal => b"illegal",
         Cause::Call => b"call",
     }
-}
-
-/// What refusals call the one method of a bare body.
-fn body_method() -> &'static [u8]
-    ensures { result.now ≡ body_method_name }
-{
-    b"[body]Body::Main()->System.Int32"
 }
 
 /// The hexadecimal digits of a number, and where in the buffer they begin.
@@ -160,10 +165,53 @@ fn hex_digit(digit: u64) -> u8
     }
 }
 
+/// Writes a line of the program, of these words. A refused write breaks it off.
+fn write_line<S: Sink>(sink: &mut S, written: &[&[u8]]) -> Result<(), Failed>
+    ensures printed { OnOk result
+        (Adds (line (map (λ word. word.now) written.now)) (S.written sink.old) (S.written sink.new)) }
+    ensures broken_off { OnErr result
+        (AddsFront (line (map (λ word. word.now) written.now)) (S.written sink.old) (S.written sink.new)) }
+    ensures failed { OnErr result (HasRisen (S.faults sink.old) (S.faults sink.new)) }
+    ensures faults_kept { S.faults sink.old ≤ S.faults sink.new }
+{
+    write_all(sink, b"ilc:")?;
+    write_words(sink, written)?;
+    write_all(sink, b"\n")
+}
+
+/// Writes words, each behind a space.
+fn write_words<S: Sink>(sink: &mut S, written: &[&[u8]]) -> Result<(), Failed>
+    ensures printed { OnOk result (Adds (flat_map (λ word. codes " " ++ word.now) written.now)
+        (S.written sink.old) (S.written sink.new)) }
+    ensures broken_off { OnErr result (AddsFront (flat_map (λ word. codes " " ++ word.now) written.now)
+        (S.written sink.old) (S.written sink.new)) }
+    ensures failed { OnErr result (HasRisen (S.faults sink.old) (S.faults sink.new)) }
+    ensures faults_kept { S.faults sink.old ≤ S.faults sink.new }
+{
+    for word in written {
+        write_word(sink, word)?;
+    }
+    Ok(())
+}
+
+/// Writes a word behind a space.
+fn write_word<S: Sink>(sink: &mut S, word: &[u8]) -> Result<(), Failed>
+    ensures printed { OnOk result (Adds (codes " " ++ word.now)
+        (S.written sink.old) (S.written sink.new)) }
+    ensures broken_off { OnErr result (AddsFront (codes " " ++ word.now)
+        (S.written sink.old) (S.written sink.new)) }
+    ensures failed { OnErr result (HasRisen (S.faults sink.old) (S.faults sink.new)) }
+    ensures faults_kept { S.faults sink.old ≤ S.faults sink.new }
+{
+    write_pieces(sink, &[b" ", word])
+}
+
 /// Writes the pieces one after another. A refused write breaks them off.
 fn write_pieces<S: Sink>(sink: &mut S, pieces: &[&[u8]]) -> Result<(), Failed>
-    ensures written { OnOk result (Adds (flat_map (λ piece. piece.now) pieces.now) (S.written sink.old) (S.written sink.new)) }
-    ensures broken_off { OnErr result (AddsFront (flat_map (λ piece. piece.now) pieces.now) (S.written sink.old) (S.written sink.new)) }
+    ensures written { OnOk result
+        (Adds (flat_map (λ piece. piece.now) pieces.now) (S.written sink.old) (S.written sink.new)) }
+    ensures broken_off { OnErr result
+        (AddsFront (flat_map (λ piece. piece.now) pieces.now) (S.written sink.old) (S.written sink.new)) }
     ensures failed { OnErr result (HasRisen (S.faults sink.old) (S.faults sink.new)) }
     ensures faults_kept { S.faults sink.old ≤ S.faults sink.new }
 {
@@ -191,7 +239,8 @@ fn write_all<S: Sink>(sink: &mut S, bytes: &[u8]) -> Result<(), Failed>
 fn write_from<S: Sink>(sink: &mut S, bytes: &[u8], at: usize) -> Result<usize, Failed>
     requires { at < length bytes.now }
     ensures some { IfOk result (λ count. (0 < count) × (at + count ≤ length bytes.now)) }
-    ensures added { IfOk result (λ count. Adds (take count (drop at bytes.now)) (S.written sink.old) (S.written sink.new)) }
+    ensures added { IfOk result (λ count.
+        Adds (take count (drop at bytes.now)) (S.written sink.old) (S.written sink.new)) }
     ensures refused { OnErr result (S.written sink.new ≡ S.written sink.old) }
     ensures failed { OnErr result (HasRisen (S.faults sink.old) (S.faults sink.new)) }
     ensures faults_kept { S.faults sink.old ≤ S.faults sink.new }

@@ -12,6 +12,177 @@ const SIX_STEPS: [u8; 24] = [
     0x93, 0x08, 0xD0, 0x05, 0x73, 0x00, 0x00, 0x00,
 ];
 
+/// Bodies, and the status that the program built of each ends with: the low byte of a constant in each form, of sums,
+/// differences and products, and of what is decided by branches.
+static ENDED: [(&[u8], u8); 21] = [
+    (b"\x0A\x15\x2A", 255),
+    (b"\x0A\x16\x2A", 0),
+    (b"\x0A\x1E\x2A", 8),
+    (b"\x0E\x1F\x80\x2A", 128),
+    (b"\x1A\x20\xFF\xFF\xFF\x7F\x2A", 255),
+    (b"\x1A\x20\x00\x00\x00\x80\x2A", 0),
+    (b"\x1A\x20\x39\x30\x00\x00\x2A", 57),
+    (b"\x22\x20\xFF\xFF\xFF\x7F\x17\x58\x2A", 0),
+    (b"\x12\x18\x17\x59\x2A", 1),
+    (b"\x12\x17\x18\x59\x2A", 255),
+    (b"\x1E\x00\x1D\x18\x26\x25\x5A\x2A", 49),
+    (
+        b"\x42\x17\x17\x17\x17\x17\x17\x17\x17\x58\x58\x58\x58\x58\x58\x58\x2A",
+        8,
+    ),
+    (b"\x26\x17\x2D\x03\x1F\x0A\x2A\x1F\x14\x2A", 20),
+    (b"\x26\x16\x2D\x03\x1F\x0A\x2A\x1F\x14\x2A", 10),
+    (b"\x32\x17\x3A\x03\x00\x00\x00\x1F\x0A\x2A\x1F\x14\x2A", 20),
+    (b"\x2A\x2B\x03\x1F\x07\x2A\x38\xF8\xFF\xFF\xFF", 7),
+    (b"\x12\x17\x2A\x14\x2A", 1),
+    (b"\x0E\x17\x2A\x00", 1),
+    (b"\x2E\x20\x00\x00\x00\x80\x2D\x02\x16\x2A\x17\x2A", 1),
+    (
+        b"\x36\x20\x00\x00\x00\x80\x25\x58\x2D\x02\x16\x2A\x17\x2A",
+        0,
+    ),
+    (b"\x2A\x17\x25\x58\x25\x1F\x40\x59\x2D\xF8\x2A", 64),
+];
+
+/// Bodies that are refused, with the status and the line: headers, opcodes, targets and control past the end, opcodes
+/// that aren't compiled, and stacks that don't fit.
+static REFUSED: [(&[u8], u8, &str); 25] = [
+    (b"", 65, "ilc: 9 BadHeader F 0\n"),
+    (b"\x0E\x1F\x2A", 65, "ilc: 9 BadHeader F 3\n"),
+    (b"\x0E\x1F\x2A\x2A\x00", 65, "ilc: 9 BadHeader F 4\n"),
+    (
+        b"\x0A\x24\x2A",
+        65,
+        "ilc: 10 BadOpcode [body]Body::Main()->System.Int32 0\n",
+    ),
+    (
+        b"\x0E\x17\x20\x2A",
+        65,
+        "ilc: 10 BadOpcode [body]Body::Main()->System.Int32 1\n",
+    ),
+    (
+        b"\x06\xFE",
+        65,
+        "ilc: 10 BadOpcode [body]Body::Main()->System.Int32 0\n",
+    ),
+    (
+        b"\x12\x2B\x05\x24\x2A",
+        65,
+        "ilc: 10 BadOpcode [body]Body::Main()->System.Int32 2\n",
+    ),
+    (
+        b"\x0A\x2B\x01",
+        65,
+        "ilc: 11 BadTarget [body]Body::Main()->System.Int32 0\n",
+    ),
+    (
+        b"\x12\x2B\x01\x1F\x2A",
+        65,
+        "ilc: 11 BadTarget [body]Body::Main()->System.Int32 0\n",
+    ),
+    (
+        b"\x12\x17\x2A\x2B\x05",
+        65,
+        "ilc: 11 BadTarget [body]Body::Main()->System.Int32 2\n",
+    ),
+    (
+        b"\x02",
+        65,
+        "ilc: 11 BadTarget [body]Body::Main()->System.Int32 0\n",
+    ),
+    (
+        b"\x0A\x1F\x2A",
+        65,
+        "ilc: 11 BadTarget [body]Body::Main()->System.Int32 0\n",
+    ),
+    (
+        b"\x0E\x17\x2D\xFD",
+        65,
+        "ilc: 11 BadTarget [body]Body::Main()->System.Int32 1\n",
+    ),
+    (
+        b"\x0A\x14\x00",
+        65,
+        "ilc: 11 BadTarget [body]Body::Main()->System.Int32 1\n",
+    ),
+    (
+        b"\x0A\x14\x2A",
+        69,
+        "ilc: 24 OpcodeOutside [body]Body::Main()->System.Int32 0\n",
+    ),
+    (
+        b"\x0E\x17\x0A\x2A",
+        69,
+        "ilc: 24 OpcodeOutside [body]Body::Main()->System.Int32 1\n",
+    ),
+    (
+        b"\x16\x2B\x01\x2A\x14\x2A",
+        69,
+        "ilc: 24 OpcodeOutside [body]Body::Main()->System.Int32 3\n",
+    ),
+    (
+        b"\x12\x26\x14\x26\x2A",
+        69,
+        "ilc: 24 OpcodeOutside [body]Body::Main()->System.Int32 1\n",
+    ),
+    (
+        b"\x06\x2A",
+        70,
+        "ilc: 20 Unverified [body]Body::Main()->System.Int32 0\n",
+    ),
+    (
+        b"\x0E\x17\x58\x2A",
+        70,
+        "ilc: 20 Unverified [body]Body::Main()->System.Int32 1\n",
+    ),
+    (
+        b"\x0E\x17\x17\x2A",
+        70,
+        "ilc: 20 Unverified [body]Body::Main()->System.Int32 2\n",
+    ),
+    (
+        b"\x4A\x17\x17\x17\x17\x17\x17\x17\x17\x17\x58\x58\x58\x58\x58\x58\x58\x58\x2A",
+        70,
+        "ilc: 20 Unverified [body]Body::Main()->System.Int32 9\n",
+    ),
+    (
+        b"\x0E\x2D\x00\x2A",
+        70,
+        "ilc: 20 Unverified [body]Body::Main()->System.Int32 0\n",
+    ),
+    (
+        b"\x1A\x17\x2D\x01\x17\x17\x2A",
+        70,
+        "ilc: 20 Unverified [body]Body::Main()->System.Int32 4\n",
+    ),
+    (
+        b"\x0E\x17\x2B\xFD",
+        70,
+        "ilc: 20 Unverified [body]Body::Main()->System.Int32 0\n",
+    ),
+];
+
+/// Words, and the index of the first that is wrong or missing.
+static WRONG: [(&str, &str); 17] = [
+    ("", "ilc: usage 0\n"),
+    ("build F", "ilc: usage 0\n"),
+    ("body", "ilc: usage 1\n"),
+    ("body -o OUT", "ilc: usage 3\n"),
+    ("body F -o", "ilc: usage 3\n"),
+    ("body F G -o OUT", "ilc: usage 2\n"),
+    ("body F -x OUT", "ilc: usage 2\n"),
+    ("body -o OUT F -o OUT", "ilc: usage 4\n"),
+    ("run", "ilc: usage 1\n"),
+    ("run F G", "ilc: usage 2\n"),
+    ("run -v", "ilc: usage 1\n"),
+    ("run --count", "ilc: usage 2\n"),
+    ("run a --steps 07", "ilc: usage 3\n"),
+    ("run a --steps", "ilc: usage 3\n"),
+    ("run --steps +5 a", "ilc: usage 2\n"),
+    ("run --steps 9223372036854775808 a", "ilc: usage 2\n"),
+    ("run --steps 5 a --steps 6", "ilc: usage 4\n"),
+];
+
 /// What a call gave: its status, what it printed, and what was printed as error text.
 #[derive(Drop)]
 struct Told {
@@ -86,39 +257,6 @@ fn is_told(told: &Told, status: u8, line: &str) -> bool {
     told.status == status && told.err.bytes() == line.as_bytes() && told.out.bytes().is_empty()
 }
 
-/// Each of these lines of words gives 64 and its line.
-fn all_usage(rt: &impl Abort, alloc: Global, cases: &[(&str, &str)]) -> Result<(), Fail> {
-    for (words, line) in cases {
-        assert!(rt; refuses(alloc, b"", words, 64, line)?, "{words}");
-    }
-    Ok(())
-}
-
-/// The program that is built of each of these bodies ends with a status.
-fn all_end(rt: &impl Abort, alloc: Global, cases: &[(&[u8], u8)]) -> Result<(), Fail> {
-    for (body, status) in cases {
-        let found = built_and_run(alloc, body)?;
-        assert!(rt; found == *status, "{found} for {status}");
-    }
-    Ok(())
-}
-
-/// Each of these bodies gives a status and its line.
-fn all_refused(
-    rt: &impl Abort,
-    alloc: Global,
-    status: u8,
-    cases: &[(&[u8], &str)],
-) -> Result<(), Fail> {
-    for (body, line) in cases {
-        assert!(rt;
-            refuses(alloc, body, "body F -o OUT", status, line)?,
-            "{line}"
-        );
-    }
-    Ok(())
-}
-
 /// The executable file of the six steps.
 fn six_steps(alloc: Global) -> Result<Bytes, Memory> {
     let layout = ElfLayout {
@@ -143,249 +281,47 @@ fn a_constant_is_the_status(rt: HostRuntime) -> Result<(), Fail> {
     Ok(())
 }
 
-/// Each form of the load of a constant; the status is the low byte of the number.
-#[test]
-fn low_bytes(rt: HostRuntime) -> Result<(), Fail> {
-    all_end(
-        &rt,
-        rt.alloc(),
-        &[
-            (b"\x0A\x15\x2A", 255),
-            (b"\x0A\x16\x2A", 0),
-            (b"\x0A\x1E\x2A", 8),
-            (b"\x0E\x1F\x80\x2A", 128),
-            (b"\x1A\x20\xFF\xFF\xFF\x7F\x2A", 255),
-            (b"\x1A\x20\x00\x00\x00\x80\x2A", 0),
-            (b"\x1A\x20\x39\x30\x00\x00\x2A", 57),
-        ],
-    )
-}
-
-/// The greatest number plus 1, 2 - 1, 1 - 2, then 7 times 7 by `nop`, `pop`, `dup` and `mul`, and eight ones added up.
-#[test]
-fn computed_numbers(rt: HostRuntime) -> Result<(), Fail> {
-    all_end(
-        &rt,
-        rt.alloc(),
-        &[
-            (b"\x22\x20\xFF\xFF\xFF\x7F\x17\x58\x2A", 0),
-            (b"\x12\x18\x17\x59\x2A", 1),
-            (b"\x12\x17\x18\x59\x2A", 255),
-            (b"\x1E\x00\x1D\x18\x26\x25\x5A\x2A", 49),
-            (
-                b"\x42\x17\x17\x17\x17\x17\x17\x17\x17\x58\x58\x58\x58\x58\x58\x58\x2A",
-                8,
-            ),
-        ],
-    )
+/// Each of the bodies is built, and its program ends so.
+fn all_end(rt: &impl Abort, alloc: Global, cases: &[(&[u8], u8)]) -> Result<(), Fail> {
+    for (body, status) in cases {
+        let found = built_and_run(alloc, body)?;
+        assert!(rt; found == *status, "{found} for {status}");
+    }
+    Ok(())
 }
 
 #[test]
-fn refused_headers(rt: HostRuntime) -> Result<(), Fail> {
-    all_refused(
-        &rt,
-        rt.alloc(),
-        65,
-        &[
-            (b"", "ilc: 9 BadHeader F 0\n"),
-            (b"\x0E\x1F\x2A", "ilc: 9 BadHeader F 3\n"),
-            (b"\x0E\x1F\x2A\x2A\x00", "ilc: 9 BadHeader F 4\n"),
-        ],
-    )
+fn ended_bodies(rt: HostRuntime) -> Result<(), Fail> {
+    all_end(&rt, rt.alloc(), &ENDED)
 }
 
-/// A byte that is no opcode, a constant that is cut, half an opcode of two bytes, and one that is asked before a target.
-#[test]
-fn bad_opcodes(rt: HostRuntime) -> Result<(), Fail> {
-    all_refused(
-        &rt,
-        rt.alloc(),
-        65,
-        &[
-            (
-                b"\x0A\x24\x2A",
-                "ilc: 10 BadOpcode [body]Body::Main()->System.Int32 0\n",
-            ),
-            (
-                b"\x0E\x17\x20\x2A",
-                "ilc: 10 BadOpcode [body]Body::Main()->System.Int32 1\n",
-            ),
-            (
-                b"\x06\xFE",
-                "ilc: 10 BadOpcode [body]Body::Main()->System.Int32 0\n",
-            ),
-            (
-                b"\x12\x2B\x05\x24\x2A",
-                "ilc: 10 BadOpcode [body]Body::Main()->System.Int32 2\n",
-            ),
-        ],
-    )
+/// Each of the bodies is refused so.
+fn all_refused(rt: &impl Abort, alloc: Global, cases: &[(&[u8], u8, &str)]) -> Result<(), Fail> {
+    for (body, status, line) in cases {
+        assert!(rt;
+            refuses(alloc, body, "body F -o OUT", *status, line)?,
+            "{line}"
+        );
+    }
+    Ok(())
 }
 
-/// Behind the code, inside an instruction, and from one that isn't reached.
 #[test]
-fn bad_targets(rt: HostRuntime) -> Result<(), Fail> {
-    all_refused(
-        &rt,
-        rt.alloc(),
-        65,
-        &[
-            (
-                b"\x0A\x2B\x01",
-                "ilc: 11 BadTarget [body]Body::Main()->System.Int32 0\n",
-            ),
-            (
-                b"\x12\x2B\x01\x1F\x2A",
-                "ilc: 11 BadTarget [body]Body::Main()->System.Int32 0\n",
-            ),
-            (
-                b"\x12\x17\x2A\x2B\x05",
-                "ilc: 11 BadTarget [body]Body::Main()->System.Int32 2\n",
-            ),
-        ],
-    )
+fn refused_bodies(rt: HostRuntime) -> Result<(), Fail> {
+    all_refused(&rt, rt.alloc(), &REFUSED)
 }
 
-/// No code, code without a return, a branch that isn't taken at the end, and an opcode that isn't allowed before.
-#[test]
-fn control_past_the_end(rt: HostRuntime) -> Result<(), Fail> {
-    all_refused(
-        &rt,
-        rt.alloc(),
-        65,
-        &[
-            (
-                b"\x02",
-                "ilc: 11 BadTarget [body]Body::Main()->System.Int32 0\n",
-            ),
-            (
-                b"\x0A\x1F\x2A",
-                "ilc: 11 BadTarget [body]Body::Main()->System.Int32 0\n",
-            ),
-            (
-                b"\x0E\x17\x2D\xFD",
-                "ilc: 11 BadTarget [body]Body::Main()->System.Int32 1\n",
-            ),
-            (
-                b"\x0A\x14\x00",
-                "ilc: 11 BadTarget [body]Body::Main()->System.Int32 1\n",
-            ),
-        ],
-    )
+/// Each of the lines of words is refused so.
+fn all_wrong(rt: &impl Abort, alloc: Global, cases: &[(&str, &str)]) -> Result<(), Fail> {
+    for (words, line) in cases {
+        assert!(rt; refuses(alloc, b"", words, 64, line)?, "{words}");
+    }
+    Ok(())
 }
 
-/// The first instruction, one behind a constant, one that a branch alone leads to, and one behind what isn't verified.
 #[test]
-fn opcodes_outside(rt: HostRuntime) -> Result<(), Fail> {
-    all_refused(
-        &rt,
-        rt.alloc(),
-        69,
-        &[
-            (
-                b"\x0A\x14\x2A",
-                "ilc: 24 OpcodeOutside [body]Body::Main()->System.Int32 0\n",
-            ),
-            (
-                b"\x0E\x17\x0A\x2A",
-                "ilc: 24 OpcodeOutside [body]Body::Main()->System.Int32 1\n",
-            ),
-            (
-                b"\x16\x2B\x01\x2A\x14\x2A",
-                "ilc: 24 OpcodeOutside [body]Body::Main()->System.Int32 3\n",
-            ),
-            (
-                b"\x12\x26\x14\x26\x2A",
-                "ilc: 24 OpcodeOutside [body]Body::Main()->System.Int32 1\n",
-            ),
-        ],
-    )
-}
-
-/// No result, one operand for two, two values at the return, and nine on the stack.
-#[test]
-fn unverified_code(rt: HostRuntime) -> Result<(), Fail> {
-    all_refused(
-        &rt,
-        rt.alloc(),
-        70,
-        &[
-            (
-                b"\x06\x2A",
-                "ilc: 20 Unverified [body]Body::Main()->System.Int32 0\n",
-            ),
-            (
-                b"\x0E\x17\x58\x2A",
-                "ilc: 20 Unverified [body]Body::Main()->System.Int32 1\n",
-            ),
-            (
-                b"\x0E\x17\x17\x2A",
-                "ilc: 20 Unverified [body]Body::Main()->System.Int32 2\n",
-            ),
-            (
-                b"\x4A\x17\x17\x17\x17\x17\x17\x17\x17\x17\x58\x58\x58\x58\x58\x58\x58\x58\x2A",
-                "ilc: 20 Unverified [body]Body::Main()->System.Int32 9\n",
-            ),
-        ],
-    )
-}
-
-/// A branch that nothing decides, two ways with different depths, and a loop whose stack grows.
-#[test]
-fn unverified_branches(rt: HostRuntime) -> Result<(), Fail> {
-    all_refused(
-        &rt,
-        rt.alloc(),
-        70,
-        &[
-            (
-                b"\x0E\x2D\x00\x2A",
-                "ilc: 20 Unverified [body]Body::Main()->System.Int32 0\n",
-            ),
-            (
-                b"\x1A\x17\x2D\x01\x17\x17\x2A",
-                "ilc: 20 Unverified [body]Body::Main()->System.Int32 4\n",
-            ),
-            (
-                b"\x0E\x17\x2B\xFD",
-                "ilc: 20 Unverified [body]Body::Main()->System.Int32 0\n",
-            ),
-        ],
-    )
-}
-
-/// Taken and not taken, by a long form, forwards and back, and what isn't reached, whatever stands there.
-#[test]
-fn branches(rt: HostRuntime) -> Result<(), Fail> {
-    all_end(
-        &rt,
-        rt.alloc(),
-        &[
-            (b"\x26\x17\x2D\x03\x1F\x0A\x2A\x1F\x14\x2A", 20),
-            (b"\x26\x16\x2D\x03\x1F\x0A\x2A\x1F\x14\x2A", 10),
-            (b"\x32\x17\x3A\x03\x00\x00\x00\x1F\x0A\x2A\x1F\x14\x2A", 20),
-            (b"\x2A\x2B\x03\x1F\x07\x2A\x38\xF8\xFF\xFF\xFF", 7),
-            (b"\x12\x17\x2A\x14\x2A", 1),
-            (b"\x0E\x17\x2A\x00", 1),
-        ],
-    )
-}
-
-/// The least number isn't 0, and twice that number is; 1 is doubled in a loop until it is 64.
-#[test]
-fn decided_by_numbers(rt: HostRuntime) -> Result<(), Fail> {
-    all_end(
-        &rt,
-        rt.alloc(),
-        &[
-            (b"\x2E\x20\x00\x00\x00\x80\x2D\x02\x16\x2A\x17\x2A", 1),
-            (
-                b"\x36\x20\x00\x00\x00\x80\x25\x58\x2D\x02\x16\x2A\x17\x2A",
-                0,
-            ),
-            (b"\x2A\x17\x25\x58\x25\x1F\x40\x59\x2D\xF8\x2A", 64),
-        ],
-    )
+fn refused_words(rt: HostRuntime) -> Result<(), Fail> {
+    all_wrong(&rt, rt.alloc(), &WRONG)
 }
 
 /// A branch to itself goes on for ever, and prints nothing.
@@ -397,39 +333,6 @@ fn a_loop_without_end(rt: HostRuntime) -> Result<(), Fail> {
     let told = call(alloc, &mut files, "run OUT --steps 1000")?;
     assert!(rt; is_told(&told, 124, "ilc: 21 Spent 1000\n"));
     Ok(())
-}
-
-#[test]
-fn refused_words(rt: HostRuntime) -> Result<(), Fail> {
-    all_usage(
-        &rt,
-        rt.alloc(),
-        &[
-            ("", "ilc: usage 0\n"),
-            ("build F", "ilc: usage 0\n"),
-            ("body", "ilc: usage 1\n"),
-            ("body -o OUT", "ilc: usage 3\n"),
-            ("body F -o", "ilc: usage 3\n"),
-            ("body F G -o OUT", "ilc: usage 2\n"),
-            ("body F -x OUT", "ilc: usage 2\n"),
-            ("body -o OUT F -o OUT", "ilc: usage 4\n"),
-        ],
-    )?;
-    all_usage(
-        &rt,
-        rt.alloc(),
-        &[
-            ("run", "ilc: usage 1\n"),
-            ("run F G", "ilc: usage 2\n"),
-            ("run -v", "ilc: usage 1\n"),
-            ("run --count", "ilc: usage 2\n"),
-            ("run a --steps 07", "ilc: usage 3\n"),
-            ("run a --steps", "ilc: usage 3\n"),
-            ("run --steps +5 a", "ilc: usage 2\n"),
-            ("run --steps 9223372036854775808 a", "ilc: usage 2\n"),
-            ("run --steps 5 a --steps 6", "ilc: usage 4\n"),
-        ],
-    )
 }
 
 /// A file that isn't there, one that is no executable, and a call with no words.

@@ -1,7 +1,7 @@
-ghost use Rattle.std.specs.Prelude.{◌≡◌, ◌⊎◌, ℕ, Ok};
-ghost use Rattle.ilc.specs.Answer.{Answers, HasWritten, HasBare, NoneCounted};
+ghost use Rattle.std.specs.Prelude.{◌≡◌, ◌⊎◌, ℕ, List, Bool, ◌≤◌, Ok};
+ghost use Rattle.ilc.specs.Answer.{Answers, HasWritten, HasBare, HasProgram, NoneCounted, NoneOfStreams};
 ghost use Rattle.ilc.specs.Seen.{store_seen, streams_seen};
-ghost use Rattle.ilc.specs.Words.{command_of, word_at};
+ghost use Rattle.ilc.specs.Words.{command_of};
 
 use crate::command::Command;
 use crate::perform::perform;
@@ -25,23 +25,45 @@ pub fn ilc<F: Files, I: Source, O: Sink, E: Sink>(
     err: &mut E,
 ) -> u8
     ensures answers { Answers words.now
-        (store_seen (F.told files.old) (F.asked files.old) (F.read_faults files.old) (F.write_faults files.old))
-        (store_seen (F.told files.new) (F.asked files.new) (F.read_faults files.new) (F.write_faults files.new))
-        (streams_seen (I.rest input.old) (O.written out.old) (E.written err.old) (I.faults input.old) (O.faults out.old) (E.faults err.old))
-        (streams_seen (I.rest input.new) (O.written out.new) (E.written err.new) (I.faults input.new) (O.faults out.new) (E.faults err.new))
+        (store_seen (F.told files.old) (F.asked files.old) (F.calls files.old) (F.read_faults files.old)
+        (F.write_faults files.old))
+        (store_seen (F.told files.new) (F.asked files.new) (F.calls files.new) (F.read_faults files.new)
+        (F.write_faults files.new))
+        (streams_seen (I.rest input.old) (O.written out.old) (E.written err.old) (I.faults input.old)
+        (O.faults out.old) (E.faults err.old))
+        (streams_seen (I.rest input.new) (O.written out.new) (E.written err.new) (I.faults input.new)
+        (O.faults out.new) (E.faults err.new))
         result }
     // Where the words are `body FILE -o OUT` and the status is 0, the file that was written does what the body does.
-    ensures body { (file out : ℕ) → command_of words.now ≡ Ok (Command.Body file out) → result ≡ 0
-        → HasWritten (word_at words.now file) (word_at words.now out) (F.told files.old) (F.told files.new) }
+    ensures body { (file out : List ℕ) → command_of words.now ≡ Ok (Command.Body file out) → result ≡ 0
+        → HasWritten file out (F.told files.old) (F.told files.new) }
     // Where FILE has the bytes of a bare body and no fault of the store is counted, it is built, or memory is wanting.
-    ensures complete { (file out : ℕ) → command_of words.now ≡ Ok (Command.Body file out)
-        → HasBare (word_at words.now file) (F.told files.old)
+    ensures body_complete { (file out : List ℕ) → command_of words.now ≡ Ok (Command.Body file out)
+        → HasBare file (F.told files.old)
         → NoneCounted
-        (store_seen (F.told files.old) (F.asked files.old) (F.read_faults files.old) (F.write_faults files.old))
-        (store_seen (F.told files.new) (F.asked files.new) (F.read_faults files.new) (F.write_faults files.new))
+        (store_seen (F.told files.old) (F.asked files.old) (F.calls files.old) (F.read_faults files.old)
+        (F.write_faults files.old))
+        (store_seen (F.told files.new) (F.asked files.new) (F.calls files.new) (F.read_faults files.new)
+        (F.write_faults files.new))
         → (result ≡ 0) ⊎ (result ≡ 75) }
+    // Where ELF has the bytes of a program that ends within the steps that it may do, and no fault is counted, the
+    // status is the program's, or memory is wanting.
+    ensures run_complete { (elf : List ℕ) (limit : ℕ) (count : Bool) (steps status : ℕ) →
+        command_of words.now ≡ Ok (Command.Run elf limit count)
+        → steps ≤ limit → HasProgram elf steps status (F.told files.old) (I.rest input.old)
+        → NoneCounted
+        (store_seen (F.told files.old) (F.asked files.old) (F.calls files.old) (F.read_faults files.old)
+        (F.write_faults files.old))
+        (store_seen (F.told files.new) (F.asked files.new) (F.calls files.new) (F.read_faults files.new)
+        (F.write_faults files.new))
+        → NoneOfStreams
+        (streams_seen (I.rest input.old) (O.written out.old) (E.written err.old) (I.faults input.old)
+        (O.faults out.old) (E.faults err.old))
+        (streams_seen (I.rest input.new) (O.written out.new) (E.written err.new) (I.faults input.new)
+        (O.faults out.new) (E.faults err.new))
+        → (result ≡ status) ⊎ (result ≡ 75) }
 {
     let outcome = perform(alloc, words, files, input, out, err);
-    let _ = report(err, words, &outcome);
+    let _ = report(err, &outcome);
     outcome.status()
 }

@@ -66,7 +66,7 @@ same_tables (k ∷ table) (l ∷ other) size below above =
     in
     ap (λ k. k ∷ table) heads ∙ ap (λ t. l ∷ t) tails
 
-one_table : (instrs : List Instr) (table other : List Known) → IsLeast instrs table → IsLeast instrs other
+pub one_table : (instrs : List Instr) (table other : List Known) → IsLeast instrs table → IsLeast instrs other
     → table ≡ other
 one_table instrs table other is is' =
     same_tables table other (is.solution.size ∙ sym is'.solution.size) (is.least other is'.solution)

@@ -1,0 +1,14 @@
+use Rattle.std.proofs.Common.{◌++◌, codes, ap}
+use Rattle.std.proofs.lemmas.List.{append-nil}
+use Rattle.ilc.proofs.Printing.{printed_as, begun_as}
+use Rattle.ilc.proofs.report.write_word.Goals as goal
+
+pub returns-clause-printed : goal.returns-clause-printed
+returns-clause-printed g c =
+    printed_as c.write_pieces.result _ _ _ _
+    (ap (λ w. codes " " ++ w) (append-nil c.args.word.now)) c.write_pieces.ensures.written
+
+pub returns-clause-broken_off : goal.returns-clause-broken_off
+returns-clause-broken_off g c =
+    begun_as c.write_pieces.result _ _ _ _
+    (ap (λ w. codes " " ++ w) (append-nil c.args.word.now)) c.write_pieces.ensures.broken_off
