@@ -61,7 +61,8 @@ same_sum v v' l l' p q = cc
 carried : (word : ℕ) → word < 2 ^ 32 → ((word + 2048) / 4096 < 2 ^ 20) ⊎ ((word + 2048) / 4096 ≡ 2 ^ 20)
 carried word h = grind arith
 
--- the upper part with its sign extended and the signed lower part have the word as their sum, but for multiples of 2 ^ 32
+-- the upper part with its sign extended and the signed lower part have the word as their sum, but for multiples of
+-- 2 ^ 32
 sum_is : (word : ℕ) → word < 2 ^ 32
     → low_bits 32 (pos (extended (((word + 2048) / 4096 % 2 ^ 20) * 2 ^ 12)) +ℤ signed 12 (word % 4096)) ≡ word
 sum_is word h =
