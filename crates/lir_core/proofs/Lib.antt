@@ -1,0 +1,6 @@
+pub mod Fitting
+pub mod MemoryLaws
+pub mod Runs
+pub mod Programs
+pub mod Sound
+pub mod Telling

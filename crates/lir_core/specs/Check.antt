@@ -1,0 +1,54 @@
+-- What a body at the word level has to keep so that it can be run.
+use Rattle.std.specs.Prelude.{ℕ, ◌+◌, ◌*◌, Bool, true, not, ◌&&◌, ◌||◌, ◌==◌, nat_le, nat_lt, List, [], ◌∷◌, length}
+use Rattle.std.specs.List.{list_all, list_any}
+use Rattle.lir_core.specs.Frame.{fixed_bytes}
+use Rattle.lir_core.specs.Pieces.{addressed, labels, touched, word}
+use Rattle.lir_core.specs.declared.body.LirBody.{LirBody}
+use Rattle.lir_core.specs.declared.soundness.Piece.{Piece}
+use Rattle.lir_core.specs.declared.op.LirOp.{LirOp}
+
+-- the piece lies among the slots of a frame of so many bytes
+abbrev pub lies_in_frame : ℕ → Piece → Bool
+lies_in_frame frame piece = nat_le (fixed_bytes + piece.from + piece.bytes) frame
+
+-- the piece is the whole word of the slot, or no byte of it
+abbrev pub is_whole_or_apart : Piece → ℕ → Bool
+is_whole_or_apart piece slot =
+    (piece.from == 8 * slot && piece.bytes == 8)
+    || nat_le (piece.from + piece.bytes) (8 * slot) || nat_le (8 * slot + 8) piece.from
+
+-- the piece lies in the frame, and each variable is in it as a whole word or not at all
+abbrev pub fits : LirBody → Piece → Bool
+fits body piece = lies_in_frame body.frame piece && list_all (is_whole_or_apart piece) body.vars
+
+-- no two of the numbers are equal
+abbrev pub are_distinct : List ℕ → Bool
+are_distinct [] = true
+are_distinct (n ∷ ns) = not (list_any (λ m. m == n) ns) && are_distinct ns
+
+-- the slot lies in the frame, and is no variable
+abbrev pub can_be_addressed : LirBody → ℕ → Bool
+can_be_addressed body slot = lies_in_frame body.frame (word slot) && not (list_any (λ var. var == slot) body.vars)
+
+-- what an operation of the body keeps: all that it touches fits, no variable has an address, and control stays within
+abbrev pub is_sound_op : LirBody → LirOp → Bool
+is_sound_op body op =
+    list_all (fits body) (touched op)
+    && list_all (can_be_addressed body) (addressed op)
+    && list_all (λ label. nat_lt label (length body.ops)) (labels op)
+
+abbrev pub ops_are_sound : LirBody → Bool
+ops_are_sound body = list_all (is_sound_op body) body.ops
+
+-- each mark stands at an operation
+abbrev pub marks_are_places : LirBody → Bool
+marks_are_places body = list_all (λ mark. nat_lt mark.0 (length body.ops)) body.marks
+
+-- each variable lies in the frame, and stands in `vars` once
+abbrev pub vars_are_slots : LirBody → Bool
+vars_are_slots body = list_all (λ slot. lies_in_frame body.frame (word slot)) body.vars && are_distinct body.vars
+
+-- Slots, labels and the places of marks are in range, and each variable stands in `vars` once and is read and written
+-- as one whole word.
+abbrev pub is_sound : LirBody → Bool
+is_sound body = ops_are_sound body && marks_are_places body && vars_are_slots body

@@ -1,0 +1,16 @@
+-- How many bytes the frame of a call takes, and what lies where in it.
+use Rattle.std.specs.Prelude.{◌≡◌, ℕ, ◌+◌, ◌*◌, ◌%◌, ◌≤◌}
+
+-- the bytes at the begin of a frame that belong to the machine alone
+abbrev pub fixed_bytes : ℕ
+fixed_bytes = 128
+
+-- how many slots stand below those of the arguments, for values within an instruction
+abbrev pub scratch_slots : ℕ
+scratch_slots = 8
+
+-- what a frame can take: at least its fixed bytes and the scratch slots, and so many that frames stay aligned
+pub record IsFrameSize (bytes : ℕ) : Type 0 where
+  pub least : fixed_bytes + 8 * scratch_slots ≤ bytes
+  pub greatest : bytes ≤ 65536
+  pub aligned : bytes % 16 ≡ 0

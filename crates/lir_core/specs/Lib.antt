@@ -1,0 +1,14 @@
+pub mod Frame
+pub mod Pieces
+pub mod Check
+pub mod Memory
+pub mod State
+pub mod Program
+pub mod Values
+pub mod Slots
+pub mod Calls
+pub mod Handlers
+pub mod Routines
+pub mod Step
+pub mod Tells
+pub mod Small

@@ -1,0 +1,112 @@
+//! Laws of memory and of runs at the word level. Each function does nothing, and ensures its laws of all values.
+ghost use Rattle.std.specs.Prelude.{◌≡◌, ◌≢◌, ◌+◌, ◌^◌, ◌<◌, ◌≤◌, ◌⊎◌, ℕ, true, List, [], length, slice_get, Some};
+ghost use Rattle.num_core.specs.Run.{Ended, Stopped, Streams};
+ghost use Rattle.lir_core.specs.Calls.{Given, stack_text};
+ghost use Rattle.lir_core.specs.Frame.{fixed_bytes as fixed_bytes_of, scratch_slots as scratch_slots_of};
+ghost use Rattle.lir_core.specs.Handlers.{unhandled_text};
+ghost use Rattle.lir_core.specs.Memory.{Cell, FlatMemory, cells_from, cells_of, number_in, overwritten};
+ghost use Rattle.lir_core.specs.Check.{is_sound, is_sound_op};
+ghost use Rattle.lir_core.specs.Pieces.{word};
+ghost use Rattle.lir_core.specs.Program.{WordProgram};
+ghost use Rattle.lir_core.specs.Slots.{addresses, place_in_frame};
+ghost use Rattle.lir_core.specs.declared.body.LirBody.{LirBody};
+ghost use Rattle.lir_core.specs.declared.op.LirOp.{LirOp};
+ghost use Rattle.lir_core.specs.Small.{program_with, adds_down, calls_a_double, calls_itself, passes_the_greatest};
+ghost use Rattle.lir_core.specs.Small.{reads_the_unwritten, raises_in_a_callee, finally_and_catch, leaves_a_try};
+ghost use Rattle.lir_core.specs.Small.{one_finally};
+ghost use Rattle.lir_core.specs.State.{WordCause, WordState};
+ghost use Rattle.lir_core.specs.Step.{word_run};
+ghost use Rattle.lir_core.specs.Tells.{MemoryTellsNoMore, TellsNoMore};
+
+use crate::body::{FIXED_BYTES, SCRATCH_SLOTS};
+
+/// The parts of a frame are those of the definitions.
+pub fn parts_of_frames()
+    ensures fixed { FIXED_BYTES ≡ fixed_bytes_of }
+    ensures scratch { SCRATCH_SLOTS ≡ scratch_slots_of }
+{}
+
+/// Memory that was written.
+pub fn written_memory()
+    // a number that is written is read back
+    ensures read_back { (memory : FlatMemory) (place count n : ℕ) → n < 256 ^ count →
+        number_in (overwritten memory place (cells_of count n)) place count ≡ Some n }
+    // what is written stands there
+    ensures written { (memory : FlatMemory) (place : ℕ) (cells : List Cell) →
+        cells_from (overwritten memory place cells) place (length cells) ≡ cells }
+    // and nothing has changed in places that it doesn't meet
+    ensures elsewhere { (memory : FlatMemory) (place other count : ℕ) (cells : List Cell) →
+        (other + count ≤ place) ⊎ (place + length cells ≤ other) →
+        cells_from (overwritten memory place cells) other count ≡ cells_from memory other count }
+{}
+
+/// What a sound body says of its operations, and of the slots of its frames.
+pub fn sound_bodies()
+    // each operation is sound
+    ensures operation { (body : LirBody) (place : ℕ) (op : LirOp) → is_sound body ≡ true →
+        slice_get body.ops place ≡ Some op → is_sound_op body op ≡ true }
+    // the words of two slots of a frame below all addresses don't meet
+    ensures apart { (body : LirBody) (address a b p q : ℕ) → address + body.frame ≤ addresses → a ≢ b →
+        place_in_frame body address (word a) ≡ Some p → place_in_frame body address (word b) ≡ Some q →
+        (p + 8 ≤ q) ⊎ (q + 8 ≤ p) }
+{}
+
+/// What it means that a state tells no more than another.
+pub fn telling()
+    // each tells no more than itself
+    ensures itself { (state : WordState) → TellsNoMore state state }
+    // nor than what tells more than one that tells more
+    ensures through { (a b c : WordState) → TellsNoMore a b → TellsNoMore b c → TellsNoMore a c }
+    // a number that is read in the one is read in the other
+    ensures number { (memory other : FlatMemory) (place count n : ℕ) → MemoryTellsNoMore memory other →
+        number_in memory place count ≡ Some n → number_in other place count ≡ Some n }
+{}
+
+/// A run that is over stays as it is.
+pub fn ended_runs()
+    // it has ended with a status
+    ensures ended { (program : WordProgram) (item : ℕ) (given : List Given) (input : List ℕ) (n m status : ℕ)
+        (streams : Streams) → n ≤ m → word_run program item given input n ≡ Ended status streams →
+        word_run program item given input m ≡ Ended status streams }
+    // it can't go on
+    ensures stopped { (program : WordProgram) (item : ℕ) (given : List Given) (input : List ℕ) (n m : ℕ)
+        (cause : WordCause) (streams : Streams) → n ≤ m →
+        word_run program item given input n ≡ Stopped cause streams →
+        word_run program item given input m ≡ Stopped cause streams }
+{}
+
+/// What small programs do whose frames may take 1024 bytes.
+pub fn small_programs()
+    // a loop over two variables
+    ensures sum { (input : List ℕ) →
+        word_run (program_with adds_down []) 0 [] input 15
+        ≡ Ended 6 (record { input = input; output = []; error = [] }) }
+    // a call, its argument and its result
+    ensures call { (input : List ℕ) →
+        word_run (program_with calls_a_double []) 0 [] input 5
+        ≡ Ended 42 (record { input = input; output = []; error = [] }) }
+    // four frames of 256 bytes fit, and a fifth doesn't
+    ensures bound { (input : List ℕ) →
+        word_run (program_with calls_itself []) 0 [] input 4
+        ≡ Ended 134 (record { input = input; output = []; error = stack_text }) }
+    // a sum out of range
+    ensures overflow { (input : List ℕ) →
+        word_run (program_with passes_the_greatest []) 0 [] input 4
+        ≡ Ended 1 (record { input = input; output = []; error = [] }) }
+    // what hasn't been written can't be read
+    ensures unwritten { (input : List ℕ) →
+        word_run (program_with reads_the_unwritten []) 0 [] input 1
+        ≡ Stopped WordCause.NoStep (record { input = input; output = []; error = [] }) }
+    // an object that is raised in a callee and caught: a finally handler runs before the catch handler
+    ensures caught { (input : List ℕ) →
+        word_run (program_with raises_in_a_callee (finally_and_catch 40)) 0 [] input 12
+        ≡ Ended 42 (record { input = input; output = []; error = [] }) }
+    // one that isn't caught: no handler runs
+    ensures uncaught { (input : List ℕ) →
+        word_run (program_with raises_in_a_callee (finally_and_catch 41)) 0 [] input 6
+        ≡ Ended 134 (record { input = input; output = []; error = unhandled_text }) }
+    // a try range that is left
+    ensures left { (input : List ℕ) →
+        word_run (program_with leaves_a_try one_finally) 0 [] input 4
+        ≡ Ended 7 (record { input = input; output = []; error = [] }) }
+{}
