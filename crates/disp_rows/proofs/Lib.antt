@@ -1,0 +1,4 @@
+pub mod Laying
+pub mod Planning
+pub mod Rows
+pub mod Taking

@@ -1,0 +1,3 @@
+pub mod ChunkLoan
+pub mod Chunks
+pub mod PoolLoan
