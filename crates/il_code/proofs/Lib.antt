@@ -5,3 +5,6 @@ pub mod Following
 pub mod Targets
 pub mod Listed
 pub mod Opcodes
+pub mod Coming
+pub mod Sections
+pub mod Sound

@@ -1,5 +1,6 @@
 -- A search by halves among instructions whose offsets rise.
-use Rattle.std.proofs.Common.{◌≡◌, ◌⊎◌, inl, inr, ℕ, ◌<◌, ◌≤◌, true, false, nat_eq, eq-eqb, List, [], ◌∷◌, length, slice_index_or, Result, Ok, Err, sym, subst, arith}
+use Rattle.std.proofs.Common.{◌≡◌, ◌⊎◌, inl, inr, ℕ, ◌<◌, ◌≤◌, true, false, nat_eq, eq-eqb, List, [], ◌∷◌, length}
+use Rattle.std.proofs.Common.{slice_index_or, Result, Ok, Err, sym, subst, arith, All, ◌∙◌}
 use Rattle.std.specs.Result.{is_ok}
 use Rattle.std.specs.List.Sorted.{IsSearchInRange, IsBinarySearchResult, IsNonDecreasingBy}
 use Rattle.std.specs.Ordering.{nat_cmp, ordering_index}
@@ -48,3 +49,17 @@ searched instrs offset (Err n) rising inside parted =
       λ (above : n ≤ j). ranked _ offset _ (sym (split.1 j d above less)),
     ) in
     other))
+
+-- an instruction that the search finds stands at the offset
+pub stands_at : (instrs : List Instr) (offset n : ℕ) → IsBinarySearchResult (λ i. nat_cmp i.at offset) instrs (Ok n)
+    → (d : Instr) → (slice_index_or instrs n d).at ≡ offset
+stands_at instrs offset n equal d = ranked _ offset _ (sym (equal d))
+
+-- where none stands at the offset, no instruction has it
+pub none_stands_at : (instrs : List Instr) (offset : ℕ) → is_boundary instrs offset ≡ false
+    → All (λ i. ¬ (i.at ≡ offset)) instrs
+none_stands_at instrs offset none = λ k d inside here.
+    let there : is_boundary instrs offset ≡ true =
+    list_any_at (λ i. nat_eq i.at offset) instrs k d inside (eq-eqb _ offset here) in
+    let both : true ≡ false = sym there ∙ none in
+    cc

@@ -1,11 +1,14 @@
 -- The instructions of code: ECMA-335 III.1.2.
-use Rattle.std.specs.Prelude.{ℕ, zero, suc, ◌+◌, ◌*◌, ◌^◌, ℤ, pos, ◌+ℤ◌, ◌==◌, nat_lt, unsigned_abs, if◌then◌else◌, List, [], ◌∷◌, length, drop, slice_index, find, Option, Some, None}
-use Rattle.std.specs.Int.{cast_signed, int_rem_euclid, w8}
+use Rattle.std.specs.Prelude.{ℕ, zero, suc, ◌+◌, ◌*◌, ◌^◌, ◌-◌, min, ℤ, pos, negsuc, ◌+ℤ◌, ◌==◌, nat_lt, if◌then◌else◌}
+use Rattle.std.specs.Prelude.{List, [], ◌∷◌, length, drop, slice_index, find, Option, Some, None}
+use Rattle.std.specs.Int.{cast_signed, w8}
 use Rattle.std.specs.Option.{option_map}
 use Rattle.byteorder.specs.Endian.{little_number, twos_complement}
 use Rattle.il_code.specs.declared.opcode.Op.{Op}
 use Rattle.il_code.specs.declared.opcode.OperandForm.{OperandForm}
-use Rattle.il_code.specs.declared.opcode.OperandForm.TheVariants.{Absent, Unsigned8, Unsigned16, Signed8, Signed32, Signed64, Token as TokenForm, Target8, Target32, Targets as TargetsForm}
+use Rattle.il_code.specs.declared.opcode.OperandForm.TheVariants.{Absent, Unsigned8, Unsigned16, Signed8, Signed32}
+use Rattle.il_code.specs.declared.opcode.OperandForm.TheVariants.{Signed64, Token as TokenForm, Target8, Target32}
+use Rattle.il_code.specs.declared.opcode.OperandForm.TheVariants.{Targets as TargetsForm}
 use Rattle.il_code.specs.declared.body.Instr.{Instr}
 use Rattle.il_code.specs.declared.body.Operand.{Operand}
 use Rattle.il_code.specs.declared.body.Operand.TheVariants.{Nothing, Number, Token, Target, Targets}
@@ -28,9 +31,14 @@ abbrev pub opcode_number : List ℕ → Option (ℕ × ℕ)
 opcode_number [] = None
 opcode_number (first ∷ rest) = if first == 0xFE then prefixed rest else Some (first, 1)
 
--- the offset at a distance from that of the next instruction, in the lowest 32 bits
+-- an offset of code, or 2 ^ 32 - 1 for what lies before it or past that number: there no instruction stands
+abbrev pub offset_of : ℤ → ℕ
+offset_of (pos n) = min n (2 ^ 32 - 1)
+offset_of (negsuc n) = 2 ^ 32 - 1
+
+-- the offset at a distance from that of the next instruction
 abbrev pub target_of : ℕ → ℤ → ℕ
-target_of next distance = unsigned_abs (int_rem_euclid (pos next +ℤ distance) (pos (2 ^ 32)))
+target_of next distance = offset_of (pos next +ℤ distance)
 
 -- so many targets, each four bytes long
 abbrev pub targets_of : ℕ → ℕ → List ℕ → List ℕ

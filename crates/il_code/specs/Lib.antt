@@ -3,3 +3,8 @@ pub mod Instructions
 pub mod Listing
 pub mod Tiny
 pub mod Operations
+pub mod Reach
+pub mod Marks
+pub mod Headers
+pub mod Clauses
+pub mod Bodies

@@ -5,7 +5,8 @@ use Rattle.il_code.specs.declared.body.Operand.{Operand}
 use Rattle.il_code.specs.declared.body.Operand.TheVariants.{Number, Target}
 use Rattle.il_code.specs.declared.opcode.Op.{Op}
 use Rattle.il_code.specs.declared.operation.Operation.{Operation}
-use Rattle.il_code.specs.declared.operation.Operation.TheVariants.{NoOperation, Constant, Duplicate, Discard, Binary, Branch, BranchIfTrue, Return}
+use Rattle.il_code.specs.declared.operation.Operation.TheVariants.{NoOperation, Constant, Duplicate, Discard, Binary}
+use Rattle.il_code.specs.declared.operation.Operation.TheVariants.{Branch, BranchIfTrue, Return}
 use Rattle.il_code.specs.declared.operation.BinaryOperation.{BinaryOperation}
 
 -- a number that an int32 can be

@@ -1,7 +1,7 @@
 -- Bodies with a tiny header: ECMA-335 II.25.4.2.
 use Rattle.std.specs.Prelude.{◌≡◌, ℕ, ◌+◌, ◌/◌, ◌%◌, ◌==◌, min, if◌then◌else◌, List, [], ◌∷◌, length, Result, Ok, Err}
-use Rattle.il_code.specs.declared.read.BodyFault.{BodyFault}
-use Rattle.il_code.specs.declared.read.BodyFault.TheVariants.{BadHeader}
+use Rattle.il_code.specs.declared.read.HeaderFault.{HeaderFault}
+use Rattle.il_code.specs.declared.read.HeaderFault.TheVariants.{BadHeader}
 
 -- The code behind a tiny header, which has the low bits 10 and the size of the code in the upper six, or the
 -- first offset at which a byte is wrong, missing or left over.
@@ -13,5 +13,5 @@ tiny_body (header ∷ code) =
     else Err 0
 
 -- a fault tells the offset that a reading gives
-abbrev pub at_offset : BodyFault → Result (List ℕ) ℕ → Type 0
+abbrev pub at_offset : HeaderFault → Result (List ℕ) ℕ → Type 0
 at_offset (BadHeader offset) reading = reading ≡ Err offset

@@ -29,7 +29,7 @@ pub enum CodeFault {
 /// `BadOpcode` tells the first offset where no instruction stands whole, and `BadTarget` the first instruction with a
 /// target at which none stands, which is looked for once all instructions were read.
 pub fn instructions(alloc: Global, code: &[u8]) -> Result<List<Instr>, CodeFault>
-    requires { length code.now < 2 ^ 31 }
+    requires { length code.now < 2 ^ 32 }
     ensures code { IfOk result (λ instrs. listed code.now ≡ Ok instrs) }
     ensures tiles { IfOk result (AreTiles code.now (length code.now)) }
     ensures targets { IfOk result (λ instrs. first_bad_target_of instrs ≡ None) }
@@ -51,7 +51,7 @@ pub fn instructions(alloc: Global, code: &[u8]) -> Result<List<Instr>, CodeFault
 
 /// The instructions, one behind another.
 fn list(alloc: Global, code: &[u8]) -> Result<List<Instr>, CodeFault>
-    requires { length code.now < 2 ^ 31 }
+    requires { length code.now < 2 ^ 32 }
     ensures code { IfOk result (λ instrs. listed code.now ≡ Ok instrs) }
     ensures rising { IfOk result AreRising }
     ensures few { IfOk result (λ instrs. length instrs ≤ length code.now) }

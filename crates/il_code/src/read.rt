@@ -1,8 +1,11 @@
-ghost use Rattle.std.specs.Prelude.{◌≡◌, ◌+◌, ◌-◌, ◌*◌, ◌<◌, ◌≤◌, ◌^◌, ◌∷◌, pos, negsuc, ◌≤ℤ◌, length, slice_index, drop, Ok, Err, IfOk, IfSome, MatchResult};
+ghost use Rattle.std.specs.Prelude.{◌≡◌, ◌+◌, ◌-◌, ◌*◌, ◌<◌, ◌≤◌, ◌^◌, ◌∷◌, pos, negsuc, ◌≤ℤ◌, length, slice_index};
+ghost use Rattle.std.specs.Prelude.{drop, Ok, Err, IfOk, IfSome, MatchResult};
 ghost use Rattle.std.specs.Int.{cast_signed, w8};
 ghost use Rattle.byteorder.specs.Endian.{little_number, twos_complement};
-ghost use Rattle.il_code.specs.Instructions.{operand_of, fixed_size as fixed_size_of, fixed_operand as fixed_operand_of};
-ghost use Rattle.il_code.specs.Instructions.{target_of, targets_of, opcode_number as opcode_number_of, instruction_at as instruction_in};
+ghost use Rattle.il_code.specs.Instructions.{operand_of, fixed_size as fixed_size_of};
+ghost use Rattle.il_code.specs.Instructions.{fixed_operand as fixed_operand_of};
+ghost use Rattle.il_code.specs.Instructions.{target_of, targets_of, opcode_number as opcode_number_of};
+ghost use Rattle.il_code.specs.Instructions.{instruction_at as instruction_in};
 ghost use Rattle.il_code.specs.declared.opcode.OperandForm.TheVariants.{Targets as TargetsForm};
 ghost use Rattle.il_code.specs.Tiny.{tiny_body, at_offset};
 
@@ -16,9 +19,9 @@ use thiserror::Error;
 /// The first byte of the opcodes of two bytes.
 const PREFIX: u8 = 0xFE;
 
-/// Why bytes are no method body.
+/// Why bytes are no tiny header and its code.
 #[derive(Clone, Copy, Debug, PartialEq, Eq, Error)]
-pub enum BodyFault {
+pub enum HeaderFault {
     /// The header is wrong, or bytes are missing or left over, first at this offset.
     #[error("9 BadHeader {0}")]
     BadHeader(u32),
@@ -27,7 +30,7 @@ pub enum BodyFault {
 /// The code of a body that is exactly one tiny header and its code (ECMA-335 II.25.4.2).
 ///
 /// The offset of `BadHeader` is the first at which a byte is wrong, missing or left over.
-pub fn tiny_code(bytes: &[u8]) -> Result<&[u8], BodyFault>
+pub fn tiny_code(bytes: &[u8]) -> Result<&[u8], HeaderFault>
     requires { length bytes.now < 2 ^ 32 }
     ensures code { MatchResult result
         (λ code. tiny_body bytes.now ≡ Ok code.now)
@@ -37,22 +40,22 @@ pub fn tiny_code(bytes: &[u8]) -> Result<&[u8], BodyFault>
     ensures spelled { IfOk result (λ code. bytes.now ≡ (4 * length code.now + 2) ∷ code.now) }
 {
     let Some((header, code)) = bytes.split_first() else {
-        return Err(BodyFault::BadHeader(0));
+        return Err(HeaderFault::BadHeader(0));
     };
     if header % 4 != 2 {
-        return Err(BodyFault::BadHeader(0));
+        return Err(HeaderFault::BadHeader(0));
     }
     let size = (header / 4) as usize;
     if code.len() == size {
         Ok(code)
     } else {
-        Err(BodyFault::BadHeader(code.len().min(size) as u32 + 1))
+        Err(HeaderFault::BadHeader(code.len().min(size) as u32 + 1))
     }
 }
 
 /// The instruction that stands whole at an offset of the code, if one does (ECMA-335 III.1.2).
 pub fn instruction_at(alloc: Global, code: &[u8], at: u32) -> Result<Option<Instr>, Memory>
-    requires { length code.now < 2 ^ 31 }
+    requires { length code.now < 2 ^ 32 }
     ensures { IfOk result (λ found. found ≡ instruction_in code.now at) }
 {
     let Some(bytes) = code.get(at as usize..) else {
@@ -96,7 +99,7 @@ fn operand(
     at: u32,
     bytes: &[u8],
 ) -> Result<Option<(Operand, u32)>, Memory>
-    requires { at + length bytes.now < 2 ^ 31 }
+    requires { at + length bytes.now < 2 ^ 32 }
     ensures value { IfOk result (λ found. found ≡ operand_of form at bytes.now) }
     ensures within { IfOk result (λ found. IfSome found (λ operand. operand.1 ≤ length bytes.now)) }
 {
@@ -137,7 +140,7 @@ fn fixed_size(form: OperandForm) -> u32
 /// The operand of a form that these bytes spell, which stand at the offset `at`.
 fn fixed_operand(form: OperandForm, at: u32, bytes: &[u8]) -> Operand
     requires whole { fixed_size_of form ≤ length bytes.now }
-    requires fits { at + length bytes.now < 2 ^ 31 }
+    requires fits { at + length bytes.now < 2 ^ 32 }
     ensures { result ≡ fixed_operand_of form at bytes.now }
 {
     match form {
@@ -169,19 +172,24 @@ fn long_target(next: u32, bytes: &[u8]) -> u32
     target(next, LittleEndian::read_i32(bytes) as i64)
 }
 
-/// The offset at a distance from that of the next instruction, in its lowest 32 bits, so that what lies before the
-/// code comes out behind it.
+/// The offset at a distance from that of the next instruction. What lies before the code or past all offsets comes out
+/// as the highest number, where no instruction stands.
 fn target(next: u32, distance: i64) -> u32
     requires near { negsuc (2 ^ 31 - 1) ≤ℤ distance }
     requires far { distance ≤ℤ pos (2 ^ 31 - 1) }
     ensures { result ≡ target_of next distance }
 {
-    (next as i64 + distance).rem_euclid(0x1_0000_0000) as u32
+    let offset = next as i64 + distance;
+    if offset < 0 || offset > u32::MAX as i64 {
+        u32::MAX
+    } else {
+        offset as u32
+    }
 }
 
 /// The targets at the front of the bytes, with their number before them.
 fn targets_operand(alloc: Global, at: u32, bytes: &[u8]) -> Result<Option<(Operand, u32)>, Memory>
-    requires { at + length bytes.now < 2 ^ 31 }
+    requires { at + length bytes.now < 2 ^ 32 }
     ensures value { IfOk result (λ found. found ≡ operand_of TargetsForm at bytes.now) }
     ensures within { IfOk result (λ found. IfSome found (λ operand. operand.1 ≤ length bytes.now)) }
 {

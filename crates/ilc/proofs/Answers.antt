@@ -1,19 +1,23 @@
 -- What the statuses of a body and of a run mean, and what the fields of refusals are.
-use Rattle.std.proofs.Common.{◌≡◌, ◌∙◌, ◌⊎◌, inl, inr, ℕ, ◌≤◌, Bool, List, Option, Some, Result, Ok, Err, refl, ap, sym, subst, arith}
+use Rattle.std.proofs.Common.{◌≡◌, ◌∙◌, ◌⊎◌, inl, inr, ℕ, ◌≤◌, Bool, List, Option, Some, Result, Ok, Err, refl, ap, sym}
+use Rattle.std.proofs.Common.{subst, arith}
 use Rattle.std.specs.Option.{option_map}
 use Rattle.ilc_io.specs.Store.{stored}
 use Rattle.rv_step.specs.Machine.{MachineState}
 use Rattle.ilc.specs.Answer.{HasWritten, HasBare, HasProgram, NoneCounted, NoneOfStreams}
-use Rattle.ilc.specs.Cause.{NotTaken, IsTaken, WriteOutcome, MachineOutcome, BodyOutcome, RunOutcome, CommandOutcome, Cause, body_limit, elf_limit, spent, trapped}
+use Rattle.ilc.specs.Cause.{NotTaken, IsTaken, WriteOutcome, MachineOutcome, BodyOutcome, RunOutcome, CommandOutcome}
+use Rattle.ilc.specs.Cause.{Cause, body_limit, elf_limit, spent, trapped}
 use Rattle.ilc.specs.Line.{status_of}
 use Rattle.ilc.specs.Refusals.{IsFormed}
 use Rattle.ilc.specs.Seen.{StoreSeen, StreamsSeen}
-use Rattle.ilc.specs.Stages.{Stage, Header, Opcodes, Targets, Flow, Operations, Verification, Load, body_stages, elf_stages, refusal_at}
+use Rattle.ilc.specs.Stages.{Stage, Header, Opcodes, Targets, Flow, Operations, Verification, Load, body_stages}
+use Rattle.ilc.specs.Stages.{elf_stages, refusal_at}
 use Rattle.ilc.specs.Words.{command_of}
 use Rattle.ilc.specs.declared.command.Command.{Command}
 use Rattle.ilc.specs.declared.command.Command.TheVariants.{Body, Run}
 use Rattle.ilc.specs.declared.outcome.Outcome.{Outcome}
-use Rattle.ilc.specs.declared.outcome.Outcome.TheVariants.{Usage, NoFile, TooLong, Refused, ReadFault, WriteFault, Ended, Written, Memory}
+use Rattle.ilc.specs.declared.outcome.Outcome.TheVariants.{Usage, NoFile, TooLong, Refused, ReadFault, WriteFault}
+use Rattle.ilc.specs.declared.outcome.Outcome.TheVariants.{Ended, Written, Memory}
 use Rattle.ilc.specs.declared.refusal.Refusal.{Refusal}
 use Rattle.ilc.proofs.OneOutcome.{body_done, run_done}
 

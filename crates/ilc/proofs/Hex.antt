@@ -1,5 +1,6 @@
 -- Hexadecimal digits, one at a time.
-use Rattle.std.proofs.Common.{◌≡◌, ◌∙◌, ℕ, zero, suc, ◌+◌, ◌*◌, ◌/◌, ◌%◌, ◌^◌, ◌<◌, ◌≤◌, refl, add-one, [], true, false, cond, List, ◌∷◌, arith, ap, sym, nat_eq, eq-eqb, ne_eqb, drop, get_or, length, drop-cons}
+use Rattle.std.proofs.Common.{◌≡◌, ◌∙◌, ℕ, zero, suc, ◌+◌, ◌*◌, ◌/◌, ◌%◌, ◌^◌, ◌<◌, ◌≤◌, refl, add-one, [], true, false}
+use Rattle.std.proofs.Common.{cond, List, ◌∷◌, arith, ap, sym, nat_eq, eq-eqb, ne_eqb, drop, get_or, length, drop-cons}
 use Rattle.std.proofs.Math.Nat.{pow-suc}
 use Rattle.std.specs.Fmt.{digits, digits_onto, digit_glyph}
 use Rattle.ilc.specs.Line.{hexadecimal}

@@ -1,5 +1,6 @@
 -- What comes of a file that wasn't read, or is refused.
-use Rattle.std.proofs.Common.{◌≡◌, ◌∙◌, ◌↔◌, ◌⊎◌, inl, inr, ℕ, ◌<◌, ◌≤◌, Bool, true, false, nat_le, List, [], ◌++◌, Option, Some, None, Result, Ok, Err, refl, ap, sym, subst, arith}
+use Rattle.std.proofs.Common.{◌≡◌, ◌∙◌, ◌↔◌, ◌⊎◌, inl, inr, ℕ, ◌<◌, ◌≤◌, Bool, true, false, nat_le, List, [], ◌++◌}
+use Rattle.std.proofs.Common.{Option, Some, None, Result, Ok, Err, refl, ap, sym, subst, arith}
 use Rattle.std.specs.FinMap.{get}
 use Rattle.std.specs.Option.{option_map}
 use Rattle.std.proofs.lemmas.Bool.{leb-true, leb-false}
@@ -14,11 +15,13 @@ use Rattle.ilc_io.specs.Store.{Store, size_of}
 use Rattle.ilc_io.specs.declared.call.Call.{Call}
 use Rattle.ilc_io.specs.declared.call.Call.TheVariants.{Size}
 use Rattle.ilc_io.specs.declared.fault.FileFault.{FileFault}
-use Rattle.ilc_io.specs.declared.fault.FileFault.TheVariants.{Missing, Failed, TooLong as FileTooLong, Memory as FileMemory}
+use Rattle.ilc_io.specs.declared.fault.FileFault.TheVariants.{Missing, Failed, TooLong as FileTooLong}
+use Rattle.ilc_io.specs.declared.fault.FileFault.TheVariants.{Memory as FileMemory}
 use Rattle.ilc.specs.Cause.{IsAsked, IsRead, IsTried, NotTaken}
 use Rattle.ilc.specs.Reading.{IsOrMemory, ReadGives, IsRefusedBy}
 use Rattle.ilc.specs.Seen.{StoreSeen}
-use Rattle.ilc.specs.Stages.{Stage, Header, Opcodes, Targets, Flow, Operations, Verification, Load, body_stages, elf_stages, refused_at, Finds, IsFirst, IsRefused, refusal_at, fault_at, body_method}
+use Rattle.ilc.specs.Stages.{Stage, Header, Opcodes, Targets, Flow, Operations, Verification, Load, body_stages}
+use Rattle.ilc.specs.Stages.{elf_stages, refused_at, Finds, IsFirst, IsRefused, refusal_at, fault_at, body_method}
 use Rattle.ilc.specs.declared.outcome.Outcome.{Outcome}
 use Rattle.ilc.specs.declared.outcome.Outcome.TheVariants.{NoFile, TooLong, Refused, ReadFault, Memory}
 use Rattle.ilc.specs.declared.refusal.Fault.TheVariants.{BadHeader, BadOpcode, BadTarget, OpcodeOutside, Unverified}

@@ -1,5 +1,6 @@
 -- Where the store and the source tell all, words come to one outcome; and what outcome that is.
-use Rattle.std.proofs.Common.{◌≡◌, ◌∙◌, ◌⊎◌, inl, inr, ℕ, ◌≤◌, Bool, List, length, Option, Some, Result, Ok, Err, refl, ap, sym, subst, arith}
+use Rattle.std.proofs.Common.{◌≡◌, ◌∙◌, ◌⊎◌, inl, inr, ℕ, ◌≤◌, Bool, List, length, Option, Some, Result, Ok, Err, refl}
+use Rattle.std.proofs.Common.{ap, sym, subst, arith}
 use Rattle.std.specs.FinMap.{get}
 use Rattle.std.specs.Option.{option_map}
 use Rattle.num_core.specs.Run.{Run, Ended as EndedRun}
@@ -11,7 +12,8 @@ use Rattle.rv_step.specs.declared.trap.Trap.{Trap}
 use Rattle.elf_file.specs.Elf.{loaded}
 use Rattle.ilc_build.proofs.Refused.{small}
 use Rattle.ilc.specs.Answer.{HasWritten, HasBare, HasProgram, NoneCounted, NoneOfStreams, TellsAll, ComesTo, AreOne}
-use Rattle.ilc.specs.Cause.{IsBuilt, IsLoaded, IsTaken, IsRead, NotTaken, BodyOutcome, RunOutcome, CommandOutcome, Cause, WriteOutcome, MachineOutcome, body_limit, elf_limit}
+use Rattle.ilc.specs.Cause.{IsBuilt, IsLoaded, IsTaken, IsRead, NotTaken, BodyOutcome, RunOutcome, CommandOutcome}
+use Rattle.ilc.specs.Cause.{Cause, WriteOutcome, MachineOutcome, body_limit, elf_limit}
 use Rattle.ilc.specs.Line.{status_of}
 use Rattle.ilc.specs.Seen.{StoreSeen, StreamsSeen}
 use Rattle.ilc.specs.Stages.{Stage, body_stages, elf_stages}
@@ -19,8 +21,10 @@ use Rattle.ilc.specs.Words.{command_of}
 use Rattle.ilc.specs.declared.command.Command.{Command}
 use Rattle.ilc.specs.declared.command.Command.TheVariants.{Body, Run as RunCommand}
 use Rattle.ilc.specs.declared.outcome.Outcome.{Outcome}
-use Rattle.ilc.specs.declared.outcome.Outcome.TheVariants.{Usage, NoFile, TooLong, Refused, ReadFault, WriteFault, Ended, Written, Memory}
-use Rattle.ilc.proofs.Shapes.{Shape, AllPass, bare_passes, elf_passes, shape_of, no_shape, not_taken_one, is_memory, written_or_memory, OutcomeOf, one_of_run, still_ended, run_outcome}
+use Rattle.ilc.specs.declared.outcome.Outcome.TheVariants.{Usage, NoFile, TooLong, Refused, ReadFault, WriteFault}
+use Rattle.ilc.specs.declared.outcome.Outcome.TheVariants.{Ended, Written, Memory}
+use Rattle.ilc.proofs.Shapes.{Shape, AllPass, bare_passes, elf_passes, shape_of, no_shape, not_taken_one, is_memory}
+use Rattle.ilc.proofs.Shapes.{written_or_memory, OutcomeOf, one_of_run, still_ended, run_outcome}
 
 two : (o o' : Outcome) → (o ≡ Written) ⊎ (o ≡ Memory) → (o' ≡ Written) ⊎ (o' ≡ Memory) → AreOne o o'
 two o o' (inr e) h' = inl e

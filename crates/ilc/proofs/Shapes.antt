@@ -1,5 +1,6 @@
 -- What an outcome is, where the store and the source tell all and no fault is counted.
-use Rattle.std.proofs.Common.{◌≡◌, ◌∙◌, ◌⊎◌, inl, inr, ℕ, ◌+◌, ◌-◌, ◌<◌, ◌≤◌, Bool, true, false, List, [], ◌∷◌, length, Option, Some, None, IfSome, Result, Ok, Err, refl, ap, sym, subst, arith}
+use Rattle.std.proofs.Common.{◌≡◌, ◌∙◌, ◌⊎◌, inl, inr, ℕ, ◌+◌, ◌-◌, ◌<◌, ◌≤◌, Bool, true, false, List, [], ◌∷◌, length}
+use Rattle.std.proofs.Common.{Option, Some, None, IfSome, Result, Ok, Err, refl, ap, sym, subst, arith}
 use Rattle.std.specs.FinMap.{get}
 use Rattle.std.specs.Option.{option_map}
 use Rattle.num_core.specs.Run.{Run, Running, Ended as EndedRun, Stopped, Streams, after, Passes}
@@ -21,9 +22,12 @@ use Rattle.ilc_build.proofs.Refused.{one_table}
 use Rattle.ilc.specs.Answer.{NoneCounted, NoneOfStreams}
 use Rattle.ilc.specs.Cause.{IsRead, NotTaken, MachineOutcome, WriteOutcome, SinkFails, spent, trapped}
 use Rattle.ilc.specs.Seen.{StoreSeen, StreamsSeen}
-use Rattle.ilc.specs.Stages.{Stage, Header, Opcodes, Targets, Flow, Operations, Verification, Load, body_stages, elf_stages, refused_at, OfCode, OfInstructions, OfTable, Finds, IsFirst, IsRefused, refusal_at}
+use Rattle.ilc.specs.Stages.{Stage, Header, Opcodes, Targets, Flow, Operations, Verification, Load, body_stages}
+use Rattle.ilc.specs.Stages.{elf_stages, refused_at, OfCode, OfInstructions, OfTable, Finds, IsFirst, IsRefused}
+use Rattle.ilc.specs.Stages.{refusal_at}
 use Rattle.ilc.specs.declared.outcome.Outcome.{Outcome}
-use Rattle.ilc.specs.declared.outcome.Outcome.TheVariants.{Usage, NoFile, TooLong, Refused, ReadFault, WriteFault, Ended, Written, Memory}
+use Rattle.ilc.specs.declared.outcome.Outcome.TheVariants.{Usage, NoFile, TooLong, Refused, ReadFault, WriteFault}
+use Rattle.ilc.specs.declared.outcome.Outcome.TheVariants.{Ended, Written, Memory}
 use Rattle.ilc.specs.declared.refusal.Refusal.{Refusal}
 
 -- ---- each stage finds one thing

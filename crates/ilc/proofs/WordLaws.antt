@@ -1,5 +1,8 @@
 -- Which index is told of words that are no line.
-use Rattle.std.proofs.Common.{◌≡◌, ◌∙◌, ◌⊎◌, inl, inr, ℕ, zero, suc, ◌+◌, ◌^◌, ◌<◌, ◌≤◌, nat_eq, ne_eqb, decimal, Bool, true, false, cond, ◌&&◌, ◌||◌, not, nat_le, List, [], ◌∷◌, ◌++◌, length, take, count_by, codes, Option, Some, None, Result, Ok, Err, refl, ap, sym, subst, arith, append_assoc, add-one, add-zero}
+use Rattle.std.proofs.Common.{◌≡◌, ◌∙◌, ◌⊎◌, inl, inr, ℕ, zero, suc, ◌+◌, ◌^◌, ◌<◌, ◌≤◌, nat_eq, ne_eqb, decimal, Bool}
+use Rattle.std.proofs.Common.{true, false, cond, ◌&&◌, ◌||◌, not, nat_le, List, [], ◌∷◌, ◌++◌, length, take, count_by}
+use Rattle.std.proofs.Common.{codes, Option, Some, None, Result, Ok, Err, refl, ap, sym, subst, arith, append_assoc}
+use Rattle.std.proofs.Common.{add-one, add-zero}
 use Rattle.std.specs.Bool.{if◌then◌else◌}
 use Rattle.std.specs.List.{flat_map, list_any, list_all}
 use Rattle.std.specs.Option.{is_some}
@@ -8,8 +11,11 @@ use Rattle.std.proofs.lemmas.Bool.{le-leb, leb-false}
 use Rattle.std.proofs.lemmas.List.{append-nil}
 use Rattle.std.proofs.lemmas.List.Folds.{list_any-append}
 use Rattle.std.proofs.lemmas.List.Sums.{fold-append}
-use Rattle.ilc.specs.Grammar.{option_row, command_row, is_name, is_name_item, gives, writes_to, is_output, is_given, fits, may_be_given, has_room, option_named, command_named, item_words, Has, MayFollow, EachMayFollow, is_whole, number_of}
-use Rattle.ilc.specs.Words.{reading, with_item, begun, with_option, with_argument, with_word, ended, go_on, items_from, command_from, asked_for, behind_command, command_of, AsksFor, IsFirstWrong}
+use Rattle.ilc.specs.Grammar.{option_row, command_row, is_name, is_name_item, gives, writes_to, is_output, is_given}
+use Rattle.ilc.specs.Grammar.{fits, may_be_given, has_room, option_named, command_named, item_words, Has, MayFollow}
+use Rattle.ilc.specs.Grammar.{EachMayFollow, is_whole, number_of}
+use Rattle.ilc.specs.Words.{reading, with_item, begun, with_option, with_argument, with_word, ended, go_on, items_from}
+use Rattle.ilc.specs.Words.{command_from, asked_for, behind_command, command_of, AsksFor, IsFirstWrong}
 use Rattle.ilc.specs.declared.command.Command.{Command}
 use Rattle.ilc.specs.declared.grammar.Argument.{Argument}
 use Rattle.ilc.specs.declared.grammar.Argument.TheVariants.{Nothing, Output, Number}
@@ -21,7 +27,8 @@ use Rattle.ilc.specs.declared.grammar.Item.{Item}
 use Rattle.ilc.specs.declared.grammar.Item.TheVariants.{Name, Switch, Setting}
 use Rattle.ilc.specs.declared.reading.Reading.{Reading}
 use Rattle.ilc.proofs.NumberOf.{spells}
-use Rattle.ilc.proofs.WordLemmas.{some_of, both, and_true, spelled_so, same_word, reads_line, accepted_is_line, line_is_accepted}
+use Rattle.ilc.proofs.WordLemmas.{some_of, both, and_true, spelled_so, same_word, reads_line, accepted_is_line}
+use Rattle.ilc.proofs.WordLemmas.{line_is_accepted}
 
 -- ---- an option waits for an argument that it takes
 

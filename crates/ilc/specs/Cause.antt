@@ -1,5 +1,6 @@
 -- When each outcome of a command comes.
-use Rattle.std.specs.Prelude.{◌≡◌, ◌⊎◌, ℕ, ◌<◌, ◌≤◌, Bool, true, false, List, [], ◌∷◌, ◌++◌, length, Option, Some, None, unwrap_or, Result, Ok, Err}
+use Rattle.std.specs.Prelude.{◌≡◌, ◌⊎◌, ℕ, ◌<◌, ◌≤◌, Bool, true, false, List, [], ◌∷◌, ◌++◌, length, Option, Some, None}
+use Rattle.std.specs.Prelude.{unwrap_or, Result, Ok, Err}
 use Rattle.std.specs.Option.{option_map}
 use Rattle.std.specs.FinMap.{get}
 use Rattle.ilc_io.specs.Calls.{noted, MayNote, ReadsInPieces, WritesInPieces}
@@ -19,7 +20,8 @@ use Rattle.ilc.specs.Words.{command_of}
 use Rattle.ilc.specs.declared.command.Command.{Command}
 use Rattle.ilc.specs.declared.command.Command.TheVariants.{Body, Run}
 use Rattle.ilc.specs.declared.outcome.Outcome.{Outcome}
-use Rattle.ilc.specs.declared.outcome.Outcome.TheVariants.{Usage, NoFile, TooLong, Refused, ReadFault, WriteFault, Ended, Written, Memory}
+use Rattle.ilc.specs.declared.outcome.Outcome.TheVariants.{Usage, NoFile, TooLong, Refused, ReadFault, WriteFault}
+use Rattle.ilc.specs.declared.outcome.Outcome.TheVariants.{Ended, Written, Memory}
 use Rattle.ilc.specs.declared.refusal.Fault.TheVariants.{Spent as SpentFault, Trap as TrapFault}
 use Rattle.ilc.specs.declared.refusal.Field.TheVariants.{Number, Address, Cause as CauseField}
 use Rattle.ilc.specs.declared.refusal.Fields.TheVariants.{One, Two}

@@ -6,7 +6,8 @@ use Rattle.rv_step.specs.declared.trap.Cause.{Cause as TrapCause}
 use Rattle.rv_step.specs.declared.trap.Cause.TheVariants.{Fetch, Load, Store, Illegal, Call}
 use Rattle.ilc.specs.Refusals.{refusal_row, listed_fields}
 use Rattle.ilc.specs.declared.outcome.Outcome.{Outcome}
-use Rattle.ilc.specs.declared.outcome.Outcome.TheVariants.{Usage, NoFile, TooLong, Refused, ReadFault, WriteFault, Ended, Written, Memory}
+use Rattle.ilc.specs.declared.outcome.Outcome.TheVariants.{Usage, NoFile, TooLong, Refused, ReadFault, WriteFault}
+use Rattle.ilc.specs.declared.outcome.Outcome.TheVariants.{Ended, Written, Memory}
 use Rattle.ilc.specs.declared.refusal.Fault.{Fault}
 use Rattle.ilc.specs.declared.refusal.Field.{Field}
 use Rattle.ilc.specs.declared.refusal.Field.TheVariants.{Text, Number, Address, Cause}

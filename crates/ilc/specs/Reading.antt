@@ -1,7 +1,8 @@
 -- What the faults of reading and building come out as.
 use Rattle.std.specs.Prelude.{◌≡◌, ◌⊎◌, ℕ, List}
 use Rattle.ilc_io.specs.declared.fault.FileFault.{FileFault}
-use Rattle.ilc_io.specs.declared.fault.FileFault.TheVariants.{Missing, Failed, TooLong as FileTooLong, Memory as FileMemory}
+use Rattle.ilc_io.specs.declared.fault.FileFault.TheVariants.{Missing, Failed, TooLong as FileTooLong}
+use Rattle.ilc_io.specs.declared.fault.FileFault.TheVariants.{Memory as FileMemory}
 use Rattle.ilc_build.specs.Refusals.{NotBare}
 use Rattle.ilc_build.specs.declared.build.BuildFault.{BuildFault}
 use Rattle.ilc.specs.Stages.{body_stages, IsRefused}

@@ -1,7 +1,8 @@
 -- The refusals of input, as a table.
 use Rattle.std.specs.Prelude.{◌≡◌, ℕ, Bool, true, false, ◌&&◌, IsTrue, List, [], ◌∷◌, codes}
 use Rattle.ilc.specs.declared.refusal.Fault.{Fault}
-use Rattle.ilc.specs.declared.refusal.Fault.TheVariants.{BadHeader, BadOpcode, BadTarget, Unverified, Spent, OpcodeOutside, Trap, BadElf}
+use Rattle.ilc.specs.declared.refusal.Fault.TheVariants.{BadHeader, BadOpcode, BadTarget, Unverified, Spent}
+use Rattle.ilc.specs.declared.refusal.Fault.TheVariants.{OpcodeOutside, Trap, BadElf}
 use Rattle.ilc.specs.declared.refusal.Field.{Field}
 use Rattle.ilc.specs.declared.refusal.Field.TheVariants.{Text, Number, Address, Cause}
 use Rattle.ilc.specs.declared.refusal.Fields.{Fields}

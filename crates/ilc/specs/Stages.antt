@@ -9,7 +9,8 @@ use Rattle.ilc_build.specs.Depths.{IsLeast, first_against, has_operation, is_ver
 use Rattle.ilc_build.specs.Typing.{tiny_max_stack}
 use Rattle.ilc_build.specs.declared.depths.Known.{Known}
 use Rattle.ilc.specs.declared.refusal.Fault.{Fault}
-use Rattle.ilc.specs.declared.refusal.Fault.TheVariants.{BadHeader, BadOpcode, BadTarget, Unverified, OpcodeOutside, BadElf}
+use Rattle.ilc.specs.declared.refusal.Fault.TheVariants.{BadHeader, BadOpcode, BadTarget, Unverified, OpcodeOutside}
+use Rattle.ilc.specs.declared.refusal.Fault.TheVariants.{BadElf}
 use Rattle.ilc.specs.declared.refusal.Field.TheVariants.{Text, Number}
 use Rattle.ilc.specs.declared.refusal.Fields.TheVariants.{Two}
 use Rattle.ilc.specs.declared.refusal.Refusal.{Refusal}

@@ -1,6 +1,8 @@
 -- How the words of the command line are read: from the left, and the first that is wrong is told by its index.
-use Rattle.std.specs.Prelude.{◌≡◌, ℕ, ◌+◌, ◌<◌, ◌≤◌, Bool, true, false, ◌&&◌, if◌then◌else◌, List, [], ◌∷◌, ◌++◌, length, count_by, take, drop, Option, Some, None, unwrap_or, Result, Ok, Err}
-use Rattle.ilc.specs.Grammar.{option_row, command_row, is_name, is_name_item, number_of, most_steps, gives, is_given, fits, may_be_given, has_room, option_named, command_named, is_whole, IsLine}
+use Rattle.std.specs.Prelude.{◌≡◌, ℕ, ◌+◌, ◌<◌, ◌≤◌, Bool, true, false, ◌&&◌, if◌then◌else◌, List, [], ◌∷◌, ◌++◌}
+use Rattle.std.specs.Prelude.{length, count_by, take, drop, Option, Some, None, unwrap_or, Result, Ok, Err}
+use Rattle.ilc.specs.Grammar.{option_row, command_row, is_name, is_name_item, number_of, most_steps, gives, is_given}
+use Rattle.ilc.specs.Grammar.{fits, may_be_given, has_room, option_named, command_named, is_whole, IsLine}
 use Rattle.ilc.specs.declared.command.Command.{Command}
 use Rattle.ilc.specs.declared.command.Command.TheVariants.{Body as BodyCommand, Run as RunCommand}
 use Rattle.ilc.specs.declared.grammar.Argument.{Argument}

@@ -1,6 +1,7 @@
 ghost use Rattle.std.specs.Prelude.{◌≡◌, ◌<◌, ◌^◌, length, IfOk, IsUtf8, unwrap_or};
 ghost use Rattle.ilc.specs.Grammar.{number_of as number_of_word};
-ghost use Rattle.ilc.specs.Words.{command_of, command_from as command_of_items, first_name as first_name_of, argument_of as argument_in, behind_command, default_steps, Reads};
+ghost use Rattle.ilc.specs.Words.{command_of, command_from as command_of_items, first_name as first_name_of};
+ghost use Rattle.ilc.specs.Words.{argument_of as argument_in, behind_command, default_steps, Reads};
 
 use crate::grammar::{
     CommandName, CommandOption, Item, MOST_STEPS, command_named, is_given, number_of,

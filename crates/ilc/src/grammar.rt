@@ -1,7 +1,11 @@
 ghost use Rattle.std.specs.Prelude.{◌≡◌, ℕ, ◌↔◌, ◌≤◌, ◌&&◌, length, count_by, codes, IsUtf8, decimal as decimal_digits};
 ghost use Rattle.std.specs.Str.{bytes_eq};
 ghost use Rattle.std.specs.List.{find, list_any, list_all};
-ghost use Rattle.ilc.specs.Grammar.{option_row, command_row, commands, is_name as is_name_of, is_name_item, number_of as number_of_word, gives as gives_option, writes_to as writes_to_file, is_given as is_given_in, fits as fits_behind, may_be_given as may_be_given_behind, has_room as has_room_for, option_named as option_of, command_named as command_of_name, is_whole as is_whole_line};
+ghost use Rattle.ilc.specs.Grammar.{option_row, command_row, commands, is_name as is_name_of, is_name_item};
+ghost use Rattle.ilc.specs.Grammar.{number_of as number_of_word, gives as gives_option, writes_to as writes_to_file};
+ghost use Rattle.ilc.specs.Grammar.{is_given as is_given_in, fits as fits_behind, may_be_given as may_be_given_behind};
+ghost use Rattle.ilc.specs.Grammar.{has_room as has_room_for, option_named as option_of};
+ghost use Rattle.ilc.specs.Grammar.{command_named as command_of_name, is_whole as is_whole_line};
 
 use crate::report::decimal;
 use itoa::Buffer;

@@ -1,6 +1,7 @@
 ghost use Rattle.std.specs.Prelude.{◌≡◌, ℕ, List, ◌<◌, ◌≤◌, length, IfOk, IfErr};
 ghost use Rattle.ilc.specs.Seen.{store_seen, streams_seen};
-ghost use Rattle.ilc.specs.Cause.{NotTaken, IsRead, IsBuilt, WriteOutcome, BodyOutcome, IsLoaded, MachineOutcome, Cause};
+ghost use Rattle.ilc.specs.Cause.{NotTaken, IsRead, IsBuilt, WriteOutcome, BodyOutcome, IsLoaded, MachineOutcome};
+ghost use Rattle.ilc.specs.Cause.{Cause};
 ghost use Rattle.ilc.specs.Stages.{Stage, body_stages, elf_stages, fault_at, body_method as body_method_text};
 ghost use Rattle.ilc.specs.Reading.{IsRefusedBy, IsOrMemory, ReadGives};
 ghost use Rattle.ilc.specs.declared.outcome.Outcome.TheVariants.{Refused};

@@ -1,8 +1,10 @@
-ghost use Rattle.std.specs.Prelude.{◌≡◌, ◌+◌, ◌<◌, ◌≤◌, ◌++◌, false, codes, length, take, drop, map, IfOk, OnOk, OnErr, decimal as decimal_digits};
+ghost use Rattle.std.specs.Prelude.{◌≡◌, ◌+◌, ◌<◌, ◌≤◌, ◌++◌, false, codes, length, take, drop, map, IfOk, OnOk, OnErr};
+ghost use Rattle.std.specs.Prelude.{decimal as decimal_digits};
 ghost use Rattle.std.specs.Fmt.{digit_glyph};
 ghost use Rattle.std.specs.List.{flat_map};
 ghost use Rattle.ilc_io.specs.Count.{HasRisen};
-ghost use Rattle.ilc.specs.Line.{line, words, line_of, refusal_line, count_line, hexadecimal, field_text, cause_name as name_of_cause};
+ghost use Rattle.ilc.specs.Line.{line, words, line_of, refusal_line, count_line, hexadecimal, field_text};
+ghost use Rattle.ilc.specs.Line.{cause_name as name_of_cause};
 ghost use Rattle.ilc.specs.Refusals.{listed_fields};
 ghost use Rattle.ilc.specs.Printed.{Adds, AddsFront};
 

@@ -1,5 +1,7 @@
 -- What the code of each operation does to the evaluation stack in memory.
-use Rattle.std.proofs.Common.{◌≡◌, ◌∙◌, ◌≢◌, ◌⊎◌, inl, inr, Bool, true, false, not, if◌then◌else◌, nat_eq, ne_eqb, ℕ, suc, ◌+◌, ◌-◌, ◌*◌, ◌%◌, ◌^◌, ◌<◌, ◌≤◌, ℤ, pos, ◌+ℤ◌, ◌-ℤ◌, ◌*ℤ◌, List, [], ◌∷◌, length, take, drop, arith, refl, ap, sym, subst, Some, slice_get, slice_set, FitsSigned, negsuc}
+use Rattle.std.proofs.Common.{◌≡◌, ◌∙◌, ◌≢◌, ◌⊎◌, inl, inr, Bool, true, false, not, if◌then◌else◌, nat_eq, ne_eqb, ℕ}
+use Rattle.std.proofs.Common.{suc, ◌+◌, ◌-◌, ◌*◌, ◌%◌, ◌^◌, ◌<◌, ◌≤◌, ℤ, pos, ◌+ℤ◌, ◌-ℤ◌, ◌*ℤ◌, List, [], ◌∷◌, length}
+use Rattle.std.proofs.Common.{take, drop, arith, refl, ap, sym, subst, Some, slice_get, slice_set, FitsSigned, negsuc}
 use Rattle.std.proofs.lemmas.Int.{ints, SFits-int_wrap}
 use Rattle.std.specs.Int.{w32}
 use Rattle.byteorder.specs.Endian.{little_bytes}
@@ -14,12 +16,14 @@ use Rattle.rv_isa.specs.declared.ins.Ins.TheVariants.{Lui, Jal, Bne, Addi, Addiw
 use Rattle.rv_isa.specs.Operands.{IsJumpOffset, IsBranchOffset}
 use Rattle.rv_isa.specs.Instructions.{IsLegal}
 use Rattle.num_core.specs.Bits.{low_bits}
-use Rattle.rv_step.specs.Machine.{MachineState, machine_step, effect, gives, register, low_word, next_pc, request, answers}
+use Rattle.rv_step.specs.Machine.{MachineState, machine_step, effect, gives, register, low_word, next_pc, request}
+use Rattle.rv_step.specs.Machine.{answers}
 use Rattle.rv_step.specs.declared.segment.Segment.{Segment}
 use Rattle.rv_step.specs.declared.trap.Trap.{Trap}
 use Rattle.cil_state.specs.Arithmetic.{result_of}
 use Rattle.cil_state.specs.Branches.{is_zero}
-use Rattle.ilc_build.specs.Code.{upper, lower, stack_address, load_slot, store_slot, binary_instruction, no_operation, distance, operation_code}
+use Rattle.ilc_build.specs.Code.{upper, lower, stack_address, load_slot, store_slot, binary_instruction, no_operation}
+use Rattle.ilc_build.specs.Code.{distance, operation_code}
 use Rattle.ilc_build.proofs.Constants.{constant_value, lower_is_immediate}
 use Rattle.ilc_build.proofs.Place.{StandsAt, BlockAt, steps_at, stands_next, within}
 use Rattle.ilc_build.proofs.Registers.{HasRegisters, Gets, has_registers, register_same, register_other, low_byte}

@@ -1,5 +1,7 @@
 -- The file of a body's code does what the body does.
-use Rattle.std.proofs.Common.{◌≡◌, ◌∙◌, ℕ, zero, suc, ◌+◌, ◌*◌, ◌<◌, ◌≤◌, Bool, true, false, not, ◌&&◌, cond, nat_eq, nat_le, eq-eqb, ◌||◌, List, [], ◌∷◌, ◌++◌, length, arith, refl, ap, sym, subst, Ok, Option, Some, None, length-append, replicate, All}
+use Rattle.std.proofs.Common.{◌≡◌, ◌∙◌, ℕ, zero, suc, ◌+◌, ◌*◌, ◌<◌, ◌≤◌, Bool, true, false, not, ◌&&◌, cond, nat_eq}
+use Rattle.std.proofs.Common.{nat_le, eq-eqb, ◌||◌, List, [], ◌∷◌, ◌++◌, length, arith, refl, ap, sym, subst, Ok}
+use Rattle.std.proofs.Common.{Option, Some, None, length-append, replicate, All}
 use Rattle.std.proofs.lemmas.List.{length-replicate}
 use Rattle.num_core.specs.Run.{KeepsStep, Run, Running, Streams, after}
 use Rattle.num_core.proofs.Runs.{keeps_step}
@@ -19,7 +21,8 @@ use Rattle.ilc_build.specs.Depths.{can_be_done, first_against, is_reached, is_ve
 use Rattle.ilc_build.specs.Raising.{IsShallow}
 use Rattle.ilc_build.specs.Typing.{can_stand, tiny_max_stack}
 use Rattle.il_code.specs.declared.operation.Operation.{Operation}
-use Rattle.il_code.specs.declared.operation.Operation.TheVariants.{NoOperation, Constant, Duplicate, Discard, Binary, Branch, BranchIfTrue, Return}
+use Rattle.il_code.specs.declared.operation.Operation.TheVariants.{NoOperation, Constant, Duplicate, Discard, Binary}
+use Rattle.il_code.specs.declared.operation.Operation.TheVariants.{Branch, BranchIfTrue, Return}
 use Rattle.ilc_build.specs.File.{IsFileOf, layout_of}
 use Rattle.ilc_build.specs.Implements.{Implements, most_steps}
 use Rattle.ilc_build.specs.declared.depths.Known.{Known}

@@ -1,8 +1,11 @@
 -- The code of one instruction after another.
-use Rattle.std.proofs.Common.{◌≡◌, ◌∙◌, ℕ, zero, suc, ◌+◌, ◌*◌, ◌<◌, ◌≤◌, All, take, subst, List, [], ◌∷◌, ◌++◌, length, drop, slice_index_or, length-append, append_assoc, Option, Some, None, refl, ap, sym, arith}
+use Rattle.std.proofs.Common.{◌≡◌, ◌∙◌, ℕ, zero, suc, ◌+◌, ◌*◌, ◌<◌, ◌≤◌, All, take, subst, List, [], ◌∷◌, ◌++◌, length}
+use Rattle.std.proofs.Common.{drop, slice_index_or, length-append, append_assoc, Option, Some, None, refl, ap, sym}
+use Rattle.std.proofs.Common.{arith}
 use Rattle.il_code.specs.declared.body.Instr.{Instr}
 use Rattle.il_code.specs.declared.operation.Operation.{Operation}
-use Rattle.il_code.specs.declared.operation.Operation.TheVariants.{NoOperation, Constant, Duplicate, Discard, Binary, Branch, BranchIfTrue, Return}
+use Rattle.il_code.specs.declared.operation.Operation.TheVariants.{NoOperation, Constant, Duplicate, Discard, Binary}
+use Rattle.il_code.specs.declared.operation.Operation.TheVariants.{Branch, BranchIfTrue, Return}
 use Rattle.il_code.specs.Operations.{operation_of}
 use Rattle.rv_isa.specs.declared.ins.Ins.{Ins}
 use Rattle.ilc_build.specs.Code.{code_from, operation_code, operation_size, row_code, row_size, IsInt32Instr}

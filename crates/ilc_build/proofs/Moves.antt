@@ -1,5 +1,7 @@
 -- Where control comes to from an instruction that can be done.
-use Rattle.std.proofs.Common.{◌≡◌, ◌∙◌, ℕ, suc, ◌+◌, ◌<◌, ◌≤◌, Bool, true, false, ◌||◌, cond, nat_eq, nat_le, eq-eqb, ne_eqb, List, [], ◌∷◌, ◌++◌, length, length-append, slice_index_or, slice_get, All, Some, None, refl, ap, sym, subst, arith}
+use Rattle.std.proofs.Common.{◌≡◌, ◌∙◌, ℕ, suc, ◌+◌, ◌<◌, ◌≤◌, Bool, true, false, ◌||◌, cond, nat_eq, nat_le, eq-eqb}
+use Rattle.std.proofs.Common.{ne_eqb, List, [], ◌∷◌, ◌++◌, length, length-append, slice_index_or, slice_get, All, Some}
+use Rattle.std.proofs.Common.{None, refl, ap, sym, subst, arith}
 use Rattle.std.specs.List.{AllPass, list_all}
 use Rattle.std.proofs.lemmas.List.Sums.{AllPass-from_list_all}
 use Rattle.std.proofs.lemmas.Bool.Decides.{nat_tests}
@@ -9,7 +11,8 @@ use Rattle.il_code.specs.declared.operation.Operation.{Operation}
 use Rattle.il_code.specs.Listing.{is_boundary}
 use Rattle.ilc_build.specs.Code.{place_of, row_size}
 use Rattle.ilc_build.specs.Bare.{IsBareCode, first_past}
-use Rattle.ilc_build.specs.Depths.{IsBelow, first_against, is_reached, is_verified_at, known_at, leads_by, leads_to, operation_at, operation_leads, passed_on, row, stays_inside}
+use Rattle.ilc_build.specs.Depths.{IsBelow, first_against, is_reached, is_verified_at, known_at, leads_by, leads_to}
+use Rattle.ilc_build.specs.Depths.{operation_at, operation_leads, passed_on, row, stays_inside}
 use Rattle.ilc_build.specs.Typing.{depth_behind, takes, tiny_max_stack}
 use Rattle.ilc_build.specs.declared.depths.Known.{Known}
 use Rattle.ilc_build.specs.declared.depths.Known.TheVariants.{Depth, Clash}

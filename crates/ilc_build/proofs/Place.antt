@@ -1,5 +1,7 @@
 -- How a machine comes to the instructions of a program's text.
-use Rattle.std.proofs.Common.{◌≡◌, ◌∙◌, ℕ, zero, suc, ◌+◌, ◌-◌, ◌*◌, ◌%◌, ◌^◌, ◌<◌, List, [], ◌∷◌, ◌++◌, length, take, drop, arith, refl, ap, sym, Some, None, slice_get, true, nat_eq, nat_le, ◌&&◌, cond, length-append, append_assoc, eq-eqb}
+use Rattle.std.proofs.Common.{◌≡◌, ◌∙◌, ℕ, zero, suc, ◌+◌, ◌-◌, ◌*◌, ◌%◌, ◌^◌, ◌<◌, List, [], ◌∷◌, ◌++◌, length, take}
+use Rattle.std.proofs.Common.{drop, arith, refl, ap, sym, Some, None, slice_get, true, nat_eq, nat_le, ◌&&◌, cond}
+use Rattle.std.proofs.Common.{length-append, append_assoc, eq-eqb}
 use Rattle.std.proofs.Math.Seq.{drop-append-add}
 use Rattle.std.proofs.lemmas.Bool.{le-leb}
 use Rattle.std.proofs.lemmas.List.{length_push}
@@ -12,7 +14,8 @@ use Rattle.rv_isa.specs.Instructions.{word_of, IsLegal}
 use Rattle.rv_isa.proofs.Rows.{known}
 use Rattle.rv_isa.proofs.WordFits.{word_fits}
 use Rattle.rv_step.specs.declared.segment.Segment.{Segment}
-use Rattle.rv_step.specs.Machine.{MachineState, bytes_at, covers, fetched, on_word, on_instruction, machine_step, effect, next_pc}
+use Rattle.rv_step.specs.Machine.{MachineState, bytes_at, covers, fetched, on_word, on_instruction, machine_step}
+use Rattle.rv_step.specs.Machine.{effect, next_pc}
 use Rattle.ilc_build.specs.Code.{text_of}
 
 four_more : (k : ℕ) → 4 * suc k ≡ suc (suc (suc (suc (4 * k))))

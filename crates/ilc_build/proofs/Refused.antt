@@ -1,5 +1,6 @@
 -- The bytes of a bare body are refused by want of memory alone.
-use Rattle.std.proofs.Common.{◌≡◌, ◌∙◌, inl, inr, ℕ, suc, ◌+◌, ◌<◌, ◌≤◌, ◌/◌, ◌%◌, min, Bool, true, false, cond, nat_eq, List, [], ◌∷◌, length, Result, Ok, Err, refl, ap, sym, subst, arith}
+use Rattle.std.proofs.Common.{◌≡◌, ◌∙◌, inl, inr, ℕ, suc, ◌+◌, ◌<◌, ◌≤◌, ◌/◌, ◌%◌, min, Bool, true, false, cond, nat_eq}
+use Rattle.std.proofs.Common.{List, [], ◌∷◌, length, Result, Ok, Err, refl, ap, sym, subst, arith}
 use Rattle.std.proofs.lemmas.Option.{none-some}
 use Rattle.il_code.specs.Listing.{listed, first_bad_target}
 use Rattle.il_code.specs.Tiny.{tiny_body}
@@ -9,7 +10,8 @@ use Rattle.ilc_build.specs.Bare.{IsBareCode, ReadsBare}
 use Rattle.ilc_build.specs.Depths.{AllBelow, IsLeast, IsBelow, join}
 use Rattle.ilc_build.specs.Refusals.{CodeGives, FlowGives, InstructionsGive, NotBare, NotBareCode}
 use Rattle.ilc_build.specs.declared.build.BuildFault.{BuildFault}
-use Rattle.ilc_build.specs.declared.build.BuildFault.TheVariants.{BadHeader, BadOpcode, BadTarget, OpcodeOutside, Unverified, Memory}
+use Rattle.ilc_build.specs.declared.build.BuildFault.TheVariants.{BadHeader, BadOpcode, BadTarget, OpcodeOutside}
+use Rattle.ilc_build.specs.declared.build.BuildFault.TheVariants.{Unverified, Memory}
 use Rattle.ilc_build.specs.declared.depths.Known.{Known}
 use Rattle.ilc_build.specs.declared.depths.Known.TheVariants.{Nothing, Depth, Clash}
 use Rattle.ilc_build.proofs.Knowing.{Ways, IsNothing, IsAll, IsSame, ways}

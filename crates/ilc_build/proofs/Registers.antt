@@ -1,5 +1,6 @@
 -- The registers of a machine after an instruction that gives one of them its value.
-use Rattle.std.proofs.Common.{◌≡◌, ◌∙◌, ◌≢◌, ℕ, ◌%◌, ◌<◌, ℤ, pos, negsuc, length, arith, ap, slice_index, slice_set, get_or-set_other, get_or-set_same}
+use Rattle.std.proofs.Common.{◌≡◌, ◌∙◌, ◌≢◌, ℕ, ◌%◌, ◌<◌, ℤ, pos, negsuc, length, arith, ap, slice_index, slice_set}
+use Rattle.std.proofs.Common.{get_or-set_other, get_or-set_same}
 use Rattle.std.proofs.Math.ListN.{length-set}
 use Rattle.num_core.specs.Bits.{low_bits}
 use Rattle.rv_step.specs.Machine.{MachineState, register}

@@ -1,9 +1,12 @@
 -- How far a table of what is known has come, and that a row that is raised brings it on.
-use Rattle.std.proofs.Common.{◌≡◌, ◌≢◌, ◌∙◌, ◌⊎◌, inl, inr, ℕ, zero, suc, ◌+◌, ◌*◌, ◌<◌, ◌≤◌, nat_le, Option, Some, None, Bool, true, false, cond, nat_eq, List, [], ◌∷◌, length, slice_set, get_or-set_same, get_or-set_other, refl, ap, sym, subst, arith}
+use Rattle.std.proofs.Common.{◌≡◌, ◌≢◌, ◌∙◌, ◌⊎◌, inl, inr, ℕ, zero, suc, ◌+◌, ◌*◌, ◌<◌, ◌≤◌, nat_le, Option, Some}
+use Rattle.std.proofs.Common.{None, Bool, true, false, cond, nat_eq, List, [], ◌∷◌, length, slice_set, get_or-set_same}
+use Rattle.std.proofs.Common.{get_or-set_other, refl, ap, sym, subst, arith}
 use Rattle.std.proofs.Math.ListN.{set, length-set}
 use Rattle.std.proofs.lemmas.Bool.{leb-true}
 use Rattle.il_code.specs.declared.operation.Operation.{Operation}
-use Rattle.il_code.specs.declared.operation.Operation.TheVariants.{NoOperation, Constant, Duplicate, Discard, Binary, Branch, BranchIfTrue, Return}
+use Rattle.il_code.specs.declared.operation.Operation.TheVariants.{NoOperation, Constant, Duplicate, Discard, Binary}
+use Rattle.il_code.specs.declared.operation.Operation.TheVariants.{Branch, BranchIfTrue, Return}
 use Rattle.ilc_build.specs.Typing.{takes, depth_behind}
 use Rattle.ilc_build.specs.Depths.{join, passed_on, row, IsBelow}
 use Rattle.ilc_build.specs.Raising.{rank, ranks, IsShallow, AreShallow, Raised}

@@ -1,5 +1,6 @@
 -- The row of the instruction at an offset.
-use Rattle.std.proofs.Common.{◌≡◌, ◌≢◌, ◌∙◌, ℕ, zero, suc, ◌<◌, Bool, true, false, cond, nat_eq, eq-eqb, ne_eqb, List, [], ◌∷◌, length, slice_index_or, slice_get, replicate, Some, refl, ap, sym, subst, arith}
+use Rattle.std.proofs.Common.{◌≡◌, ◌≢◌, ◌∙◌, ℕ, zero, suc, ◌<◌, Bool, true, false, cond, nat_eq, eq-eqb, ne_eqb, List}
+use Rattle.std.proofs.Common.{[], ◌∷◌, length, slice_index_or, slice_get, replicate, Some, refl, ap, sym, subst, arith}
 use Rattle.il_code.specs.declared.body.Instr.{Instr}
 use Rattle.ilc_build.specs.Depths.{row, known_at, AllBelow, IsBelow}
 use Rattle.ilc_build.specs.declared.depths.Known.{Known}

@@ -1,5 +1,8 @@
 -- The code of a bare body does what the body does.
-use Rattle.std.proofs.Common.{◌≡◌, ◌∙◌, ◌⊎◌, inl, inr, if◌then◌else◌, ℕ, suc, ◌+◌, ◌-◌, ◌*◌, ◌<◌, ◌≤◌, ℤ, pos, negsuc, List, [], ◌∷◌, ◌++◌, length, slice_index_or, arith, refl, ap, sym, subst, All, Option, Some, None, cond, nat_eq, nat_le, eq-eqb, ne_eqb, find, Bool, true, false, ◌&&◌, length-append}
+use Rattle.std.proofs.Common.{◌≡◌, ◌∙◌, ◌⊎◌, inl, inr, if◌then◌else◌, ℕ, suc, ◌+◌, ◌-◌, ◌*◌, ◌<◌, ◌≤◌, ℤ, pos, negsuc}
+use Rattle.std.proofs.Common.{List, [], ◌∷◌, ◌++◌, length, slice_index_or, arith, refl, ap, sym, subst, All, Option}
+use Rattle.std.proofs.Common.{Some, None, cond, nat_eq, nat_le, eq-eqb, ne_eqb, find, Bool, true, false, ◌&&◌}
+use Rattle.std.proofs.Common.{length-append}
 use Rattle.std.specs.List.{AllPass}
 use Rattle.std.proofs.lemmas.Bool.Decides.{nat_tests}
 use Rattle.std.proofs.lemmas.Int.{ints}
@@ -10,7 +13,8 @@ use Rattle.num_core.proofs.Runs.{Simulates}
 use Rattle.il_code.specs.declared.body.Body.{Body}
 use Rattle.il_code.specs.declared.body.Instr.{Instr}
 use Rattle.il_code.specs.declared.operation.Operation.{Operation}
-use Rattle.il_code.specs.declared.operation.Operation.TheVariants.{NoOperation, Constant, Duplicate, Discard, Binary, Branch, BranchIfTrue, Return}
+use Rattle.il_code.specs.declared.operation.Operation.TheVariants.{NoOperation, Constant, Duplicate, Discard, Binary}
+use Rattle.il_code.specs.declared.operation.Operation.TheVariants.{Branch, BranchIfTrue, Return}
 use Rattle.il_code.specs.Listing.{is_boundary}
 use Rattle.il_code.specs.declared.operation.BinaryOperation.{BinaryOperation}
 use Rattle.rv_isa.specs.Operands.{IsBranchOffset, IsJumpOffset}
@@ -23,13 +27,16 @@ use Rattle.cil_state.specs.State.{CilState, CilCause, Frame, Slot, Int32}
 use Rattle.cil_state.specs.Arithmetic.{result_of}
 use Rattle.cil_state.specs.Branches.{is_zero}
 use Rattle.cil_state.specs.Step.{cil_step, on_instruction, performs}
-use Rattle.ilc_build.specs.Code.{IsInt32Instr, LoadsInt32, code_of, code_from, distance, operation_code, operation_size, place_of, row_code, row_size}
-use Rattle.ilc_build.specs.Depths.{can_be_done, first_against, is_reached, is_verified_at, leads_by, operation_at, operation_leads, row}
+use Rattle.ilc_build.specs.Code.{IsInt32Instr, LoadsInt32, code_of, code_from, distance, operation_code, operation_size}
+use Rattle.ilc_build.specs.Code.{place_of, row_code, row_size}
+use Rattle.ilc_build.specs.Depths.{can_be_done, first_against, is_reached, is_verified_at, leads_by, operation_at}
+use Rattle.ilc_build.specs.Depths.{operation_leads, row}
 use Rattle.ilc_build.specs.Implements.{most_steps}
 use Rattle.ilc_build.specs.Typing.{depth_behind, takes, tiny_max_stack}
 use Rattle.ilc_build.specs.declared.depths.Known.{Known}
 use Rattle.ilc_build.specs.declared.depths.Known.TheVariants.{Depth}
-use Rattle.ilc_build.proofs.Blocks.{OnStack, Walks, Went, went_nowhere, went_constant, went_duplicate, went_binary, went_elsewhere, went_either_way, went_home}
+use Rattle.ilc_build.proofs.Blocks.{OnStack, Walks, Went, went_nowhere, went_constant, went_duplicate, went_binary}
+use Rattle.ilc_build.proofs.Blocks.{went_elsewhere, went_either_way, went_home}
 use Rattle.il_code.proofs.Following.{follow}
 use Rattle.ilc_build.proofs.Moves.{Found, Lands, inside, lands, next_place}
 use Rattle.ilc_build.proofs.Place.{BlockAt, block_at}

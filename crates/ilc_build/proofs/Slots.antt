@@ -1,5 +1,7 @@
 -- The evaluation stack in memory.
-use Rattle.std.proofs.Common.{◌≡◌, ◌∙◌, ℕ, ◌+◌, ◌-◌, ◌*◌, ◌^◌, ◌<◌, ◌≤◌, ℤ, pos, ◌+ℤ◌, Bool, true, false, cond, ◌&&◌, nat_le, List, [], ◌∷◌, ◌++◌, length, take, drop, Some, None, refl, ap, sym, arith, length-append, append_assoc}
+use Rattle.std.proofs.Common.{◌≡◌, ◌∙◌, ℕ, ◌+◌, ◌-◌, ◌*◌, ◌^◌, ◌<◌, ◌≤◌, ℤ, pos, ◌+ℤ◌, Bool, true, false, cond, ◌&&◌}
+use Rattle.std.proofs.Common.{nat_le, List, [], ◌∷◌, ◌++◌, length, take, drop, Some, None, refl, ap, sym, arith}
+use Rattle.std.proofs.Common.{length-append, append_assoc}
 use Rattle.std.proofs.Math.Seq.{drop-append_seam, take-append_seam}
 use Rattle.std.proofs.lemmas.Bool.{le-leb, lt-leb}
 use Rattle.std.proofs.lemmas.List.{take-append-drop, take-append-le, drop-append-le, length-take-le, length-drop}
@@ -9,7 +11,8 @@ use Rattle.byteorder.specs.Numbers.{little_number-reads_back, length-bytes_low_f
 use Rattle.num_core.specs.Run.{Running, Streams}
 use Rattle.rv_step.specs.declared.segment.Segment.{Segment}
 use Rattle.num_core.specs.Bits.{low_bits}
-use Rattle.rv_step.specs.Machine.{MachineState, register, address, bytes_at, with_bytes_at, covers, overwritten, gives, gives_loaded, goes_on_with, next_pc, effect}
+use Rattle.rv_step.specs.Machine.{MachineState, register, address, bytes_at, with_bytes_at, covers, overwritten, gives}
+use Rattle.rv_step.specs.Machine.{gives_loaded, goes_on_with, next_pc, effect}
 use Rattle.ilc_build.specs.Code.{slot, load_slot, store_slot}
 
 -- the address of the evaluation stack

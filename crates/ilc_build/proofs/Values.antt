@@ -1,10 +1,12 @@
 -- Numbers of 32 bits in registers of 64, and what is left of them.
-use Rattle.std.proofs.Common.{◌≡◌, ◌∙◌, ◌+◌, ◌-◌, ◌*◌, ◌/◌, ◌%◌, ◌^◌, ◌<◌, ℤ, pos, negsuc, ◌+ℤ◌, ◌-ℤ◌, ◌*ℤ◌, ap, sym, arith, unsigned_abs}
+use Rattle.std.proofs.Common.{◌≡◌, ◌∙◌, ◌+◌, ◌-◌, ◌*◌, ◌/◌, ◌%◌, ◌^◌, ◌<◌, ℤ, pos, negsuc, ◌+ℤ◌, ◌-ℤ◌, ◌*ℤ◌, ap, sym}
+use Rattle.std.proofs.Common.{arith, unsigned_abs}
 use Rattle.std.proofs.lemmas.Int.{ints}
 use Rattle.std.specs.Int.{cast_signed, w32, int_wrap, int_rem_euclid}
 use Rattle.num_core.specs.Integers.{held}
 use Rattle.num_core.specs.declared.kind.Kind.TheVariants.{I4}
-use Rattle.num_core.proofs.WrapLaws.{int_wrap-pos, int_wrap-is, int_wrap-same, int_wrap-sum, int_wrap-difference, int_wrap-product}
+use Rattle.num_core.proofs.WrapLaws.{int_wrap-pos, int_wrap-is, int_wrap-same, int_wrap-sum, int_wrap-difference}
+use Rattle.num_core.proofs.WrapLaws.{int_wrap-product}
 use Rattle.num_core.specs.Bits.{low_bits}
 use Rattle.rv_step.specs.Machine.{low_word}
 

@@ -13,7 +13,7 @@ use crate::build::BuildFault;
 use crate::depths::{Known, depths, falls_through};
 use crate::typing::can_stand;
 use il_code::{
-    Body, BodyFault, CodeFault, Instr, Operation, instructions, is_boundary,
+    Body, CodeFault, HeaderFault, Instr, Operation, instructions, is_boundary,
     targets_are_boundaries, tiny_code,
 };
 use num_core::List;
@@ -37,7 +37,7 @@ pub(crate) fn read_bare(alloc: Global, bytes: &[u8]) -> Result<Bare, BuildFault>
 {
     match tiny_code(bytes) {
         Ok(code) => read_code(alloc, code),
-        Err(BodyFault::BadHeader(offset)) => Err(BuildFault::BadHeader(offset)),
+        Err(HeaderFault::BadHeader(offset)) => Err(BuildFault::BadHeader(offset)),
     }
 }
 

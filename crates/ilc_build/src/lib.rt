@@ -8,6 +8,3 @@ mod depths;
 mod typing;
 
 pub use build::{BuildFault, build_body};
-
-#[cfg(test)]
-mod tests;

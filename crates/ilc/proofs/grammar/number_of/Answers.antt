@@ -2,7 +2,8 @@
 use Rattle.std.proofs.Common.{◌∙◌, ◌<◌, ◌^◌, refl, sym, arith, None, Some}
 use Rattle.ilc.proofs.NumberOf.{spells, spelled_exactly, not_parsed, parsed_other, same_bytes, other_bytes}
 use Rattle.ilc.proofs.grammar.number_of.Goals as goal
-use Rattle.ilc.proofs.grammar.number_of.Goals.{else-number-most-via-then-number-most+else-eq, else-number-most-via-else-number-most}
+use Rattle.ilc.proofs.grammar.number_of.Goals.{else-number-most-via-then-number-most+else-eq}
+use Rattle.ilc.proofs.grammar.number_of.Goals.{else-number-most-via-else-number-most}
 
 pub returns-in_default-parse-clause-number : goal.returns-in_default-parse-clause-number
 returns-in_default-parse-clause-number c =

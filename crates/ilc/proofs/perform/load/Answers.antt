@@ -28,7 +28,8 @@ returns-in-Err-BadElf-clause-refused g c =
     ap loaded (sym c.as_slice.ensures)
     ∙ subst (λ fault. Gives (Err fault) (loaded c.as_slice.result.now)) c.in-Err-BadElf.field-0-is
     c.in-Err-BadElf.ensures.exact in
-    refused_or_memory elf_stages c.args.elf.now elf_limit c.in-Ok.content before now c.refused.result c.in-Ok.ensures.read
+    refused_or_memory elf_stages c.args.elf.now elf_limit c.in-Ok.content before now c.refused.result
+    c.in-Ok.ensures.read
     (told_at elf_stages c.args.elf.now c.in-Ok.content Load c.in-Err-BadElf.place c.refused.result
     (first_load c.in-Ok.content c.in-Err-BadElf.place bad)
     (subst (λ text. IsOrMemory (Refused (fault_at BadElf text c.in-Err-BadElf.place)) c.refused.result)

@@ -1,5 +1,6 @@
 use Rattle.std.proofs.Math.ListN.{set}
-use Rattle.std.proofs.Common.{◌≡◌, ◌∙◌, ◌+◌, ◌-◌, ◌<◌, ℕ, List, suc, arith, ap, sym, refl, get_or-set_same, length, drop, ◌/◌, false}
+use Rattle.std.proofs.Common.{◌≡◌, ◌∙◌, ◌+◌, ◌-◌, ◌<◌, ℕ, List, suc, arith, ap, sym, refl, get_or-set_same, length}
+use Rattle.std.proofs.Common.{drop, ◌/◌, false}
 use Rattle.std.proofs.lemmas.List.{length-set, drop-set-lt}
 use Rattle.std.specs.Fmt.{digits_onto}
 use Rattle.ilc.proofs.Hex.{hex_next, hex_whole, hex_room, hex_left, hex_all}

@@ -47,5 +47,6 @@ returns-clause-broken_off g c =
     (c.decimal-number.ensures ∙ ap decimal c.row.ensures.number) c.name-name.ensures
     ∙ sym (append_assoc a w (codes "\n")))
     (adds_more a w (g.S.Sink.written c.args.sink.now) (g.S.Sink.written c.write_pieces.new.sink)
-    (g.S.Sink.written c.write_fields.new.sink) c.in_ok-write_pieces.ensures.written c.in_ok-write_fields.ensures.printed)
+    (g.S.Sink.written c.write_fields.new.sink) c.in_ok-write_pieces.ensures.written
+    c.in_ok-write_fields.ensures.printed)
     c.write_all.ensures.broken_off
