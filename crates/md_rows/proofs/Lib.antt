@@ -1,0 +1,6 @@
+pub mod Counted
+pub mod Joined
+pub mod Named
+pub mod Places
+pub mod Fitting
+pub mod Whole

@@ -1,0 +1,4 @@
+pub mod Tables
+pub mod Widths
+pub mod Cells
+pub mod Reading
