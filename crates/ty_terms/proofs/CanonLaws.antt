@@ -2,11 +2,14 @@
 use Rattle.std.proofs.Common.{◌≡◌, refl, sym, ap, ◌∙◌, ℕ, Bool, true, false, cond, List, [], ◌∷◌, map}
 use Rattle.ty_terms.specs.declared.names.MethodName.{MethodName}
 use Rattle.ty_terms.specs.declared.names.TypeId.{TypeId}
-use Rattle.ty_terms.specs.declared.ty.Prim.{Prim as Primitive}
+use Rattle.ty_terms.specs.declared.ty.Primitive.{Primitive}
 use Rattle.ty_terms.specs.declared.ty.Ty.{Ty}
-use Rattle.ty_terms.specs.declared.ty.Ty.TheVariants.{Prim, Named, Vector, ByRef, Var, MVar, Canon, rolls-Prim, rolls-Vector, rolls-ByRef, rolls-Var, rolls-MVar, rolls-Canon}
-use Rattle.ty_terms.specs.Canon.{canonical, canonical_form, canon_step, canonical_argument, shared, is_reference_type, is_reference_layer}
-use Rattle.ty_terms.specs.Induction.{All, induction, fold-Prim, fold-Named, fold-Vector, fold-ByRef, fold-Var, fold-MVar, fold-Canon, out-Named, out-Vector, out-ByRef, out-Canon}
+use Rattle.ty_terms.specs.declared.ty.Ty.TheVariants.{Prim, Named, Vector, ByRef, Var, MVar, Canon, rolls-Prim}
+use Rattle.ty_terms.specs.declared.ty.Ty.TheVariants.{rolls-Vector, rolls-ByRef, rolls-Var, rolls-MVar, rolls-Canon}
+use Rattle.ty_terms.specs.Canon.{canonical, canonical_form, canon_step, canonical_argument, shared, is_reference_type}
+use Rattle.ty_terms.specs.Canon.{is_reference_layer}
+use Rattle.ty_terms.specs.Induction.{All, induction, fold-Prim, fold-Named, fold-Vector, fold-ByRef, fold-Var}
+use Rattle.ty_terms.specs.Induction.{fold-MVar, fold-Canon, out-Named, out-Vector, out-ByRef, out-Canon}
 
 module _ (values : List TypeId) where
   abbrev form : Ty → Ty

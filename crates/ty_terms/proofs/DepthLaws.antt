@@ -1,13 +1,16 @@
 -- The depth after a substitution.
-use Rattle.std.proofs.Common.{◌≡◌, ap, ◌∙◌, ℕ, ◌+◌, ◌≤◌, max, List, [], ◌∷◌, ◌++◌, map, zero, suc, slice_index_or, arith}
-use Rattle.ty_terms.specs.declared.ty.Prim.{Prim as Primitive}
+use Rattle.std.proofs.Common.{◌≡◌, ap, ◌∙◌, ℕ, ◌+◌, ◌≤◌, max, List, [], ◌∷◌, ◌++◌, map, zero, suc, slice_index_or}
+use Rattle.std.proofs.Common.{arith}
+use Rattle.ty_terms.specs.declared.ty.Primitive.{Primitive}
 use Rattle.ty_terms.specs.declared.names.TypeId.{TypeId}
 use Rattle.ty_terms.specs.declared.ty.Ty.{Ty}
 use Rattle.ty_terms.specs.declared.ty.Ty.TheVariants.{Prim, Named, Vector, ByRef, Var, MVar, Canon}
 use Rattle.ty_terms.specs.Depth.{depth_of, depth_of_all, depth_step}
 use Rattle.ty_terms.specs.Subst.{substituted}
-use Rattle.ty_terms.specs.Induction.{All, induction, fold-Prim, fold-Named, fold-Vector, fold-ByRef, fold-Var, fold-MVar, fold-Canon}
-use Rattle.ty_terms.proofs.SubstLaws.{substituted-Prim, substituted-Named, substituted-Vector, substituted-ByRef, substituted-Var, substituted-MVar, substituted-Canon}
+use Rattle.ty_terms.specs.Induction.{All, induction, fold-Prim, fold-Named, fold-Vector, fold-ByRef, fold-Var}
+use Rattle.ty_terms.specs.Induction.{fold-MVar, fold-Canon}
+use Rattle.ty_terms.proofs.SubstLaws.{substituted-Prim, substituted-Named, substituted-Vector, substituted-ByRef}
+use Rattle.ty_terms.proofs.SubstLaws.{substituted-Var, substituted-MVar, substituted-Canon}
 
 depth-Prim : (p : Primitive) → depth_of (Prim p) ≡ 1
 depth-Prim = fold-Prim depth_step

@@ -9,7 +9,8 @@ use Rattle.ty_terms.specs.declared.names.FieldName.{FieldName}
 use Rattle.ty_terms.specs.declared.names.MethodName.{MethodName}
 use Rattle.ty_terms.specs.declared.names.Slot.{Slot as SlotName}
 use Rattle.ty_terms.specs.declared.nodes.Node.{Node}
-use Rattle.ty_terms.specs.declared.nodes.Node.TheVariants.{Method, TypeOf, Made, Slot, Statics, Init, Str, Blob, TypeObj, Name, Maker, Invoke, Table}
+use Rattle.ty_terms.specs.declared.nodes.Node.TheVariants.{Method, TypeOf, Made, Slot, Statics, Init, Str, Blob}
+use Rattle.ty_terms.specs.declared.nodes.Node.TheVariants.{TypeObj, Name, Maker, Invoke, Table}
 use Rattle.ty_terms.specs.declared.nodes.DictEntry.{DictEntry}
 use Rattle.ty_terms.specs.declared.nodes.DictEntry.TheVariants.{OfType, OfMethod, OfStatics, OfSlot}
 use Rattle.ty_terms.specs.contracts.nodes.NodeOrd.TheImpl as node

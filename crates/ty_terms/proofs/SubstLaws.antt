@@ -1,14 +1,17 @@
 -- Substitution: its equation at each form, and its laws.
-use Rattle.std.proofs.Common.{◌≡◌, refl, sym, ap, ◌∙◌, ℕ, Bool, true, false, ◌&&◌, nat_lt, IsTrue, List, [], ◌∷◌, map, length, slice_index_or, zero, suc, ltb-true, lt-ltb, arith}
+use Rattle.std.proofs.Common.{◌≡◌, refl, sym, ap, ◌∙◌, ℕ, Bool, true, false, ◌&&◌, nat_lt, IsTrue, List, [], ◌∷◌, map}
+use Rattle.std.proofs.Common.{length, slice_index_or, zero, suc, ltb-true, lt-ltb, arith}
 use Rattle.std.proofs.lemmas.Bool.{false≢true}
 use Rattle.std.proofs.lemmas.List.{get_or-map}
 use Rattle.std.specs.List.{list_all}
 use Rattle.ty_terms.specs.declared.names.TypeId.{TypeId}
-use Rattle.ty_terms.specs.declared.ty.Prim.{Prim as Primitive}
+use Rattle.ty_terms.specs.declared.ty.Primitive.{Primitive}
 use Rattle.ty_terms.specs.declared.ty.Ty.{Ty}
-use Rattle.ty_terms.specs.declared.ty.Ty.TheVariants.{Prim, Named, Vector, ByRef, Var, MVar, Canon, rolls-Prim, rolls-Named, rolls-Vector, rolls-ByRef, rolls-Canon}
+use Rattle.ty_terms.specs.declared.ty.Ty.TheVariants.{Prim, Named, Vector, ByRef, Var, MVar, Canon, rolls-Prim}
+use Rattle.ty_terms.specs.declared.ty.Ty.TheVariants.{rolls-Named, rolls-Vector, rolls-ByRef, rolls-Canon}
 use Rattle.ty_terms.specs.Subst.{substituted, subst_step, within_step, has_variables_below, IsClosed}
-use Rattle.ty_terms.specs.Induction.{All, induction, fold-Prim, fold-Named, fold-Vector, fold-ByRef, fold-Var, fold-MVar, fold-Canon}
+use Rattle.ty_terms.specs.Induction.{All, induction, fold-Prim, fold-Named, fold-Vector, fold-ByRef, fold-Var}
+use Rattle.ty_terms.specs.Induction.{fold-MVar, fold-Canon}
 
 list_all-map : {A : Type 0} (test : A → Bool) (xs : List A) → list_all (λ b. b) (map test xs) ≡ list_all test xs
 list_all-map test [] = refl

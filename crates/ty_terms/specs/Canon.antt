@@ -3,7 +3,7 @@ use Rattle.std.specs.Prelude.{Bool, true, false, not, ◌&&◌, ◌==◌, if◌t
 use Rattle.std.specs.List.{list_any}
 use Rattle.ty_terms.specs.declared.names.MethodName.{MethodName}
 use Rattle.ty_terms.specs.declared.names.TypeId.{TypeId}
-use Rattle.ty_terms.specs.declared.ty.Prim.TheVariants.{String, Object}
+use Rattle.ty_terms.specs.declared.ty.Primitive.TheVariants.{String, Object}
 use Rattle.ty_terms.specs.declared.ty.Ty.{Ty}
 use Rattle.ty_terms.specs.declared.ty.Ty.TheVariants.{Named, Canon}
 use Rattle.ty_terms.specs.declared.ty.Ty.TheOpen.{Ty-F}

@@ -1,7 +1,8 @@
 -- The depth of a type.
 use Rattle.std.specs.Prelude.{ℕ, ◌+◌, max, List, [], ◌∷◌, map}
 use Rattle.ty_terms.specs.declared.nodes.Node.{Node}
-use Rattle.ty_terms.specs.declared.nodes.Node.TheVariants.{Method, TypeOf, Made, Slot, Statics, Init, Str, Blob, TypeObj, Name, Maker, Invoke, Table}
+use Rattle.ty_terms.specs.declared.nodes.Node.TheVariants.{Method, TypeOf, Made, Slot, Statics, Init, Str, Blob}
+use Rattle.ty_terms.specs.declared.nodes.Node.TheVariants.{TypeObj, Name, Maker, Invoke, Table}
 use Rattle.ty_terms.specs.declared.ty.Ty.{Ty}
 use Rattle.ty_terms.specs.declared.ty.Ty.TheOpen.{Ty-F}
 use Rattle.ty_terms.specs.declared.ty.Ty.TheFolds.{fold-Ty}

@@ -1,9 +1,11 @@
 -- Induction over types, case by case, and the equations of what is defined by one layer.
 use Rattle.std.proofs.Common.{◌≡◌, sym, ap, subst, ◌∙◌, ℕ, List, [], ◌∷◌, map}
 use Rattle.ty_terms.specs.declared.names.TypeId.{TypeId}
-use Rattle.ty_terms.specs.declared.ty.Prim.{Prim as Primitive}
+use Rattle.ty_terms.specs.declared.ty.Primitive.{Primitive}
 use Rattle.ty_terms.specs.declared.ty.Ty.{Ty}
-use Rattle.ty_terms.specs.declared.ty.Ty.TheVariants.{Prim, Named, Vector, ByRef, Var, MVar, Canon, rolls-Prim, rolls-Named, rolls-Vector, rolls-ByRef, rolls-Var, rolls-MVar, rolls-Canon}
+use Rattle.ty_terms.specs.declared.ty.Ty.TheVariants.{Prim, Named, Vector, ByRef, Var, MVar, Canon, rolls-Prim}
+use Rattle.ty_terms.specs.declared.ty.Ty.TheVariants.{rolls-Named, rolls-Vector, rolls-ByRef, rolls-Var, rolls-MVar}
+use Rattle.ty_terms.specs.declared.ty.Ty.TheVariants.{rolls-Canon}
 use Rattle.ty_terms.specs.declared.ty.Ty.TheOpen.{Ty-F}
 use Rattle.ty_terms.specs.declared.ty.Ty.TheViews.{roll-Ty, out-Ty, the_lemmas}
 use Rattle.ty_terms.specs.declared.ty.Ty.TheFolds.{fold-Ty, fold-roll-Ty, ind-Ty, map-Ty}

@@ -3,8 +3,9 @@ use Rattle.std.specs.Prelude.{ℕ, List, [], ◌∷◌}
 use Rattle.std.specs.declared.cmp.Ordering.{Ordering}
 use Rattle.std.specs.Ordering.{ordering_then, nat_cmp}
 use Rattle.std.specs.Cmp.Lexicographic.{slice_cmp}
-use Rattle.ty_terms.specs.declared.ty.Prim.{Prim as Primitive}
-use Rattle.ty_terms.specs.declared.ty.Prim.TheVariants.{Void, Boolean, Char, I1, U1, I2, U2, I4, U4, I8, U8, String, I, U, Object}
+use Rattle.ty_terms.specs.declared.ty.Primitive.{Primitive}
+use Rattle.ty_terms.specs.declared.ty.Primitive.TheVariants.{Void, Boolean, Char, I1, U1, I2, U2, I4, U4, I8, U8}
+use Rattle.ty_terms.specs.declared.ty.Primitive.TheVariants.{String, I, U, Object}
 use Rattle.ty_terms.specs.declared.ty.Ty.{Ty}
 use Rattle.ty_terms.specs.declared.ty.Ty.TheOpen.{Ty-F}
 use Rattle.ty_terms.specs.declared.ty.Ty.TheViews.{out-Ty}

@@ -1,5 +1,6 @@
 -- The order of types: its equation, and that it is total and tells any two types apart.
-use Rattle.std.proofs.Common.{◌≡◌, refl, sym, ap, subst, ◌∙◌, ℕ, List, [], ◌∷◌, map, cond, ◌==◌, ◌<◌, ◌≤◌, length, drop, zero, suc, arith}
+use Rattle.std.proofs.Common.{◌≡◌, refl, sym, ap, subst, ◌∙◌, ℕ, List, [], ◌∷◌, map, cond, ◌==◌, ◌<◌, ◌≤◌, length, drop}
+use Rattle.std.proofs.Common.{zero, suc, arith}
 use Rattle.std.specs.declared.cmp.Ordering.{Ordering}
 use Rattle.std.specs.declared.cmp.Ordering.TheVariants.{Less, Equal, Greater}
 use Rattle.std.specs.Ordering.{ordering_then, ordering_reverse, nat_cmp, MatchOrdering}
@@ -7,15 +8,17 @@ use Rattle.std.specs.Cmp.{IsTotalOrder}
 use Rattle.std.specs.Cmp.Lexicographic.{slice_cmp}
 use Rattle.std.proofs.lemmas.Cmp.{nat_list_cmp_total, ranked}
 use Rattle.ty_terms.specs.declared.names.TypeId.{TypeId}
-use Rattle.ty_terms.specs.declared.ty.Prim.{Prim as Primitive}
-use Rattle.ty_terms.specs.declared.ty.Prim.TheVariants.{Void, Boolean, Char, I1, U1, I2, U2, I4, U4, I8, U8, String, I, U, Object}
+use Rattle.ty_terms.specs.declared.ty.Primitive.{Primitive}
+use Rattle.ty_terms.specs.declared.ty.Primitive.TheVariants.{Void, Boolean, Char, I1, U1, I2, U2, I4, U4, I8, U8}
+use Rattle.ty_terms.specs.declared.ty.Primitive.TheVariants.{String, I, U, Object}
 use Rattle.ty_terms.specs.declared.ty.Ty.{Ty}
 use Rattle.ty_terms.specs.declared.ty.Ty.TheVariants.{Prim, Named, Vector, ByRef, Var, MVar, Canon}
 use Rattle.ty_terms.specs.declared.ty.Ty.TheOpen.{Ty-F}
 use Rattle.ty_terms.specs.declared.ty.Ty.TheViews.{out-Ty, roll-Ty, the_lemmas}
 use Rattle.ty_terms.specs.declared.ty.Ty.TheFolds.{fold_out-Ty, map-Ty}
 use Rattle.ty_terms.specs.Order.{order, order_step, head, inside, primitive_number}
-use Rattle.ty_terms.specs.Induction.{All, induction, out-Prim, out-Named, out-Vector, out-ByRef, out-Var, out-MVar, out-Canon}
+use Rattle.ty_terms.specs.Induction.{All, induction, out-Prim, out-Named, out-Vector, out-ByRef, out-Var, out-MVar}
+use Rattle.ty_terms.specs.Induction.{out-Canon}
 
 -- ---- the equation
 

@@ -3,7 +3,7 @@ ghost use Rattle.ty_terms.specs.Canon.{canonical, canonical_argument, canonical_
 
 use crate::copy::add;
 use crate::names::{MethodName, TypeId};
-use crate::ty::{Prim, Ty};
+use crate::ty::{Primitive, Ty};
 use num_core::{List, Memory};
 use sqlite_items::Boxed;
 use std::alloc::Global;
@@ -21,7 +21,8 @@ pub fn is_reference(ty: &Ty, values: &List<TypeId>) -> bool
     ensures { result ≡ is_reference_type values.now ty.now }
 {
     match ty {
-        Ty::Prim(Prim::String) | Ty::Prim(Prim::Object) | Ty::Vector(_) | Ty::Canon => true,
+        Ty::Prim(Primitive::String) | Ty::Prim(Primitive::Object) | Ty::Vector(_) | Ty::Canon =>
+            true,
         Ty::Named(id, _) => !is_value_type(values.as_slice(), *id),
         Ty::Prim(_) | Ty::ByRef(_) | Ty::Var(_) | Ty::MVar(_) => false,
     }

@@ -23,7 +23,7 @@ pub use names::{FieldName, MethodId, MethodName, Slot, TypeId};
 pub use nodes::{DictEntry, Node, Part, PartKind, Warning};
 pub use sqlite_items::Boxed;
 pub use substitution::{all_variables_below, subst, subst_all, variables_below};
-pub use ty::{Prim, Ty};
+pub use ty::{Primitive, Ty};
 
 #[cfg(test)]
 mod tests;

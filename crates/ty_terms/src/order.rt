@@ -3,10 +3,10 @@ ghost use Rattle.std.specs.Cmp.Lexicographic.{slice_cmp};
 ghost use Rattle.ty_terms.specs.Order.{order, primitive_number, kind};
 ghost use Rattle.ty_terms.specs.declared.ty.Ty.TheViews.{out-Ty};
 
-use crate::ty::{Prim, Ty};
+use crate::ty::{Primitive, Ty};
 use std::cmp::Ordering;
 
-impl Prim {
+impl Primitive {
     /// The place of the primitive type among them.
     fn number(self) -> u8
         ensures { result ≡ primitive_number self }

@@ -1,6 +1,6 @@
 //! Types by hand: `Pair` is a value type and the first of its table, and `List` is the second.
 use crate::{
-    Boxed, DictEntry, FieldName, MethodId, MethodName, Node, Part, PartKind, Prim, Slot, Ty,
+    Boxed, DictEntry, FieldName, MethodId, MethodName, Node, Part, PartKind, Primitive, Slot, Ty,
     TypeId, Warning, all_variables_below, canon, canon_arguments, canon_method, depth,
     is_reference, node_depth, subst, subst_all, variables_below,
 };
@@ -8,9 +8,9 @@ use num_core::List;
 use std::alloc::Global;
 use std::process::Abort;
 
-const I4: Ty = Ty::Prim(Prim::I4);
+const I4: Ty = Ty::Prim(Primitive::I4);
 
-const STRING: Ty = Ty::Prim(Prim::String);
+const STRING: Ty = Ty::Prim(Primitive::String);
 
 fn one(rt: &impl Abort, alloc: Global, ty: Ty) -> List<Ty> {
     let mut types = List::new(alloc);

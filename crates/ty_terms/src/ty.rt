@@ -4,7 +4,7 @@ use sqlite_items::Boxed;
 
 /// The primitive types, one for each element type that stands for itself (ECMA-335 II.23.1.16).
 #[derive(Clone, Copy, Debug, PartialEq, Eq, PartialOrd, Ord)]
-pub enum Prim {
+pub enum Primitive {
     Void,
     Boolean,
     Char,
@@ -25,7 +25,7 @@ pub enum Prim {
 /// A type, as a signature writes it (ECMA-335 II.23.2.12).
 #[derive(Debug, Drop)]
 pub enum Ty {
-    Prim(Prim),
+    Prim(Primitive),
     /// A class, an interface or a value type, with its arguments.
     Named(TypeId, List<Ty>),
     /// The one-dimensional array of an element type.

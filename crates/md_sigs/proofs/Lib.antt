@@ -1,0 +1,9 @@
+pub mod Languages
+pub mod Readers
+pub mod Numbers
+pub mod Bytes
+pub mod Standing
+pub mod Spelled
+pub mod Whole
+pub mod Runs
+pub mod Productions
