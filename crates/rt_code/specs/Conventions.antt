@@ -1,0 +1,63 @@
+-- What programs and the routines of the runtime keep in registers, and where a routine may write.
+use Rattle.std.specs.Prelude.{◌≡◌, ℕ, ◌+◌, ◌*◌, ◌≤◌, ◌^◌, List, [], ◌∷◌, length, map}
+use Rattle.rv_isa.specs.declared.ins.Ins.{Ins}
+use Rattle.rv_step.specs.Machine.{MachineState, register}
+use Rattle.rv_step.specs.Memory.{AllowsTheSame, AreApart, Bytes, MayRead, MayWrite}
+use Rattle.rv_step.specs.Segments.{AreSegments}
+
+-- x1 has the address at which a call goes on behind it
+abbrev pub return_address : ℕ
+return_address = 1
+
+-- x2 has the address of the innermost frame, or the end of the stack
+abbrev pub frame_address : ℕ
+frame_address = 2
+
+-- x3 has the address of the root
+abbrev pub root_address : ℕ
+root_address = 3
+
+-- x10 has the one word that a routine takes, and the one that it gives
+abbrev pub passed_word : ℕ
+passed_word = 10
+
+-- x26 has the lowest address that a frame may have
+abbrev pub lowest_address : ℕ
+lowest_address = 26
+
+-- x27 has the address behind what is used of the heap
+abbrev pub heap_end : ℕ
+heap_end = 27
+
+-- what routines keep: these, and x4, x8, x9 and x18 to x25
+abbrev pub kept_registers : List ℕ
+kept_registers = 1 ∷ 2 ∷ 3 ∷ 4 ∷ 8 ∷ 9 ∷ 18 ∷ 19 ∷ 20 ∷ 21 ∷ 22 ∷ 23 ∷ 24 ∷ 25 ∷ 26 ∷ 27 ∷ []
+
+-- A routine writes only to the last of the fixed bytes of the innermost frame; behind the end of the stack there are
+-- as many for it.
+abbrev pub scratch_at : ℕ
+scratch_at = 96
+
+abbrev pub scratch_bytes : ℕ
+scratch_bytes = 32
+
+abbrev pub scratch : MachineState → ℕ
+scratch m = register m frame_address + scratch_at
+
+-- The scratch bytes of a frame at an address may be read and written, and code of so many instructions lies elsewhere.
+pub record HasScratch (frame address count : ℕ) (m : MachineState) : Type 0 where
+  pub fits : frame + scratch_at + scratch_bytes ≤ 2 ^ 64
+  pub read : MayRead m (frame + scratch_at) scratch_bytes
+  pub write : MayWrite m (frame + scratch_at) scratch_bytes
+  pub apart : AreApart (frame + scratch_at) scratch_bytes address (4 * count)
+
+-- the registers that routines keep are as before
+abbrev pub KeepsRegisters : MachineState → MachineState → Type 0
+KeepsRegisters m new = map (register new) kept_registers ≡ map (register m) kept_registers
+
+-- the memory of `new` is that of `old` but for the bytes that a routine may write
+pub record KeepsMemory (old new : MachineState) : Type 0 where
+  pub segments : AreSegments new.segments
+  pub kept : (other : ℕ) (bytes : List ℕ) → AreApart (scratch old) scratch_bytes other (length bytes)
+      → Bytes old other bytes → Bytes new other bytes
+  pub allows : (other count : ℕ) → AllowsTheSame old new other count

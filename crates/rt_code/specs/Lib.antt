@@ -1,0 +1,3 @@
+pub mod Conventions
+pub mod Effects
+pub mod Code
