@@ -1,11 +1,11 @@
 #!/usr/bin/env bash
-# The words of the table test of rv_isa against GNU as: each row of the test becomes a line of assembler text, and each
-# variant of `Ins` has to have a row.
+# The words of the table that tests rv_isa against GNU as: each row becomes a line of assembler text, and each variant of
+# `Ins` has to have a row.
 . "$(dirname "${BASH_SOURCE[0]}")/common.bash"
 wants riscv64-linux-gnu-as=binutils-riscv64-linux-gnu
 
 # a word and its instruction, as `00000073 Ecall`
-sed -n 's/^    (0x\([0-9a-f]*\)_\([0-9a-f]*\), "\(.*\)"),$/\1\2 \3/p' crates/rv_isa/src/tests.rt >"$work/rows"
+sed -n '/^[0-9a-f]\{8\} [A-Z]/p' crates/library_tests/src/encodings.rt >"$work/rows"
 
 sed -n 's/^    \([A-Z][a-z0-9]*\)[ ,].*$/\1/p' crates/rv_isa/src/ins.rt | sort -u >"$work/variants"
 cut -d ' ' -f 2 "$work/rows" | sort -u >"$work/tested"

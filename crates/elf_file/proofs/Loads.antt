@@ -1,5 +1,6 @@
 -- What was written loads.
-use Rattle.std.proofs.Common.{◌≡◌, ◌∙◌, ap, refl, ℕ, ◌+◌, ◌-◌, ◌^◌, ◌<◌, ◌≤◌, min, max, true, false, ◌||◌, List, [], ◌∷◌, ◌++◌, length, take, drop, replicate, arith, append_assoc, length-append}
+use Rattle.std.proofs.Common.{◌≡◌, ◌∙◌, ap, refl, ℕ, ◌+◌, ◌-◌, ◌^◌, ◌<◌, ◌≤◌, min, max, true, false, ◌||◌, List, []}
+use Rattle.std.proofs.Common.{◌∷◌, ◌++◌, length, take, drop, replicate, arith, append_assoc, length-append}
 use Rattle.std.specs.Prelude.{Ok, ◌==◌, nat_lt}
 use Rattle.std.specs.List.{list_any}
 use Rattle.std.proofs.lemmas.List.{length-replicate, take-append-le, append-nil}
@@ -9,7 +10,9 @@ use Rattle.byteorder.specs.Numbers.{little_number-reads_back}
 use Rattle.rv_step.specs.declared.segment.Segment.{Segment}
 use Rattle.elf_file.specs.declared.header.ProgramHeader.{ProgramHeader}
 use Rattle.elf_file.specs.declared.layout.ElfLayout.{ElfLayout}
-use Rattle.elf_file.specs.Elf.{number_at, has_elf_header, program_header, segment_of, overlaps, can_load, with_header, machine_at, loaded, base, up_to_page, elf_header, load_header, text_size, headers_of, file_of, text_segment, rest_segment, machine_of}
+use Rattle.elf_file.specs.Elf.{number_at, has_elf_header, program_header, segment_of, overlaps, can_load, with_header}
+use Rattle.elf_file.specs.Elf.{machine_at, loaded, base, up_to_page, elf_header, load_header, text_size, headers_of}
+use Rattle.elf_file.specs.Elf.{file_of, text_segment, rest_segment, machine_of}
 
 -- the header that load_header writes
 abbrev load_fields : ℕ → ℕ → ℕ → ℕ → ProgramHeader

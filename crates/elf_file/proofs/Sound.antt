@@ -1,5 +1,7 @@
 -- The segments that a file loads have no address in common, and don't wrap.
-use Rattle.std.proofs.Common.{◌≡◌, ap, subst, refl, ℕ, zero, suc, ◌+◌, ◌^◌, ◌<◌, ◌≤◌, min, max, Bool, true, false, ◌&&◌, not, List, [], ◌∷◌, ◌++◌, length, get_or, arith, cond, ◌⊎◌, inl, inr, length-append, length-take, length-drop}
+use Rattle.std.proofs.Common.{◌≡◌, ap, subst, refl, ℕ, zero, suc, ◌+◌, ◌^◌, ◌<◌, ◌≤◌, min, max, Bool, true, false, ◌&&◌}
+use Rattle.std.proofs.Common.{not, List, [], ◌∷◌, ◌++◌, length, get_or, arith, cond, ◌⊎◌, inl, inr, length-append}
+use Rattle.std.proofs.Common.{length-take, length-drop}
 use Rattle.std.specs.Prelude.{Result, Ok, Err, ◌==◌, nat_lt}
 use Rattle.std.specs.List.{list_any}
 use Rattle.std.proofs.lemmas.List.{length-replicate}
@@ -11,7 +13,8 @@ use Rattle.rv_step.specs.declared.segment.Segment.{Segment}
 use Rattle.rv_step.specs.Machine.{MachineState}
 use Rattle.rv_step.specs.Segments.{AreDisjoint, DoesNotWrap, AreSegments}
 use Rattle.elf_file.specs.declared.header.ProgramHeader.{ProgramHeader}
-use Rattle.elf_file.specs.Elf.{and_then, number_at, has_elf_header, program_header, segment_of, overlaps, can_load, with_header, with_headers, machine_at, loaded}
+use Rattle.elf_file.specs.Elf.{and_then, number_at, has_elf_header, program_header, segment_of, overlaps, can_load}
+use Rattle.elf_file.specs.Elf.{with_header, with_headers, machine_at, loaded}
 
 -- which way a test went
 chosen : {A : Type 0} (b : Bool) {x y z : A} → cond b x y ≡ z → ((b ≡ true) × (x ≡ z)) ⊎ ((b ≡ false) × (y ≡ z))

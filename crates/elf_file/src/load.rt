@@ -1,6 +1,9 @@
-ghost use Rattle.std.specs.Prelude.{◌≡◌, ◌+◌, ◌≤◌, ◌&&◌, ◌^◌, length, nat_le, [], Ok, IfOk, OnOk, IsTrue, All, AllPairs};
+ghost use Rattle.std.specs.Prelude.{◌≡◌, ◌+◌, ◌≤◌, ◌&&◌, ◌^◌, length, nat_le, [], Ok, IfOk, OnOk, IsTrue, All};
+ghost use Rattle.std.specs.Prelude.{AllPairs};
 ghost use Rattle.std.specs.List.{list_any};
-ghost use Rattle.elf_file.specs.Elf.{Gives, has_elf_header as has_elf_header_in, number_at, program_header as program_header_in, segment_of, overlaps as overlaps_by, with_header as with_header_in, with_headers as with_headers_in};
+ghost use Rattle.elf_file.specs.Elf.{Gives, has_elf_header as has_elf_header_in, number_at};
+ghost use Rattle.elf_file.specs.Elf.{program_header as program_header_in, segment_of, overlaps as overlaps_by};
+ghost use Rattle.elf_file.specs.Elf.{with_header as with_header_in, with_headers as with_headers_in};
 ghost use Rattle.elf_file.specs.Elf.{loaded};
 ghost use Rattle.rv_step.specs.Machine.{MachineState};
 ghost use Rattle.rv_step.specs.Segments.{AreDisjoint, DoesNotWrap, AreSegments};

@@ -1,5 +1,6 @@
 ghost use Rattle.std.specs.Prelude.{◌≡◌, ◌+◌, ◌≤◌, ◌<◌, ◌^◌, ◌++◌, length, replicate, Ok, IfOk, OnOk};
-ghost use Rattle.elf_file.specs.Elf.{half, word, xword, elf_header, load_header, text_size, headers_of, file_of, machine_of, loaded, base};
+ghost use Rattle.elf_file.specs.Elf.{half, word, xword, elf_header, load_header, text_size, headers_of, file_of};
+ghost use Rattle.elf_file.specs.Elf.{machine_of, loaded, base};
 
 use crate::header::{
     ELF_HEADER, EM_RISCV, ET_EXEC, EV_CURRENT, IDENTIFICATION, PROGRAM_HEADER, PT_LOAD,

@@ -12,8 +12,6 @@ mod mem_stream;
 mod name;
 mod stream;
 mod stream_adapters;
-#[cfg(test)]
-mod tests;
 mod whole;
 
 pub use call::Call;

@@ -6,6 +6,3 @@ mod solve;
 
 pub use flow::Flow;
 pub use solve::least_solution;
-
-#[cfg(test)]
-mod tests;

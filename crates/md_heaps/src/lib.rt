@@ -6,6 +6,3 @@ mod heaps;
 
 pub use compressed::{read_compressed, spellings_are_read};
 pub use heaps::{blob_at, guid_at, string_at, user_string_at};
-
-#[cfg(test)]
-mod tests;

@@ -1,5 +1,6 @@
 -- The bit operations of 64 bits on values of 32 bits with their sign extended are those of 32 bits.
-use Rattle.std.proofs.Common.{refl, ap, sym, subst, ◌≡◌, ◌∙◌, ◌⊎◌, inl, inr, ℕ, suc, ◌+◌, ◌-◌, ◌/◌, ◌%◌, ◌^◌, ◌<◌, ◌≤◌, lit≤, ℤ, pos, negsuc, bit_and, bit_or, bit_xor, FitsSigned, Bool, true, false, arith}
+use Rattle.std.proofs.Common.{refl, ap, sym, subst, ◌≡◌, ◌∙◌, ◌⊎◌, inl, inr, ℕ, suc, ◌+◌, ◌-◌, ◌/◌, ◌%◌, ◌^◌, ◌<◌, ◌≤◌}
+use Rattle.std.proofs.Common.{lit≤, ℤ, pos, negsuc, bit_and, bit_or, bit_xor, FitsSigned, Bool, true, false, arith}
 use Rattle.std.proofs.lemmas.Int.{to_z_pos, int_wrap_fits}
 use Rattle.std.proofs.lemmas.Nat.{and_mod, or_mod, xor_mod, and_shr, or_shr, xor_shr}
 use Rattle.std.proofs.lemmas.Bool.{ltb-true}
@@ -7,7 +8,8 @@ use Rattle.std.specs.Int.{w32, w64, cast_signed, cast_unsigned, int_bit_and, int
 use mir.Val.{sel}
 use mir.ValLaws.{of_z_fits}
 use lib.Dec.{ltb}
-use lib.Bits.{and_lt, or_lt, xor_lt, and_zero_l, and_zero_r, and_self, or_zero_l, or_zero_r, or_self, xor_zero_l, xor_zero_r, xor_self}
+use lib.Bits.{and_lt, or_lt, xor_lt, and_zero_l, and_zero_r, and_self, or_zero_l, or_zero_r, or_self, xor_zero_l}
+use lib.Bits.{xor_zero_r, xor_self}
 use Rattle.num_core.proofs.WrapLaws.{int_wrap-cast_signed, cast_unsigned-low, fits_wider}
 
 -- the bits of n from 31 on are all 0, or all 1

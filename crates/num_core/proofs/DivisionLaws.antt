@@ -1,5 +1,6 @@
 -- The quotient and the remainder of two numbers of a range lie in it, but for the quotient of the least number by -1.
-use Rattle.std.proofs.Common.{◌↔◌, ◌∙◌, sym, refl, ap, ◌≡◌, ℕ, zero, suc, ◌-◌, ◌/◌, ◌%◌, ◌^◌, ◌<◌, ◌≤◌, ℤ, pos, negsuc, neg_ℤ, int_div, int_rem, unsigned_abs, Bool, true, false, IsTrue, arith}
+use Rattle.std.proofs.Common.{◌↔◌, ◌∙◌, sym, refl, ap, ◌≡◌, ℕ, zero, suc, ◌-◌, ◌/◌, ◌%◌, ◌^◌, ◌<◌, ◌≤◌, ℤ, pos, negsuc}
+use Rattle.std.proofs.Common.{neg_ℤ, int_div, int_rem, unsigned_abs, Bool, true, false, IsTrue, arith}
 use Rattle.std.proofs.lemmas.Bool.{false≢true}
 use Rattle.std.specs.Int.{Width, w32, w64}
 use mir.Val.{hbits}
@@ -7,7 +8,8 @@ use lib.Signed.{mag, mag_rem}
 use native.Mathlib.Nat.{div-le_self, mod-le, mul-div-le, mul-le-mul_right}
 use Rattle.num_core.specs.declared.kind.Kind.{Kind}
 use Rattle.num_core.specs.declared.kind.Kind.TheVariants.{I4, U4, I8, U8}
-use Rattle.num_core.specs.Integers.{lies_in, least, is_signed, width, number, in_range, InRange, IsOfKind, IsLeastByMinusOne}
+use Rattle.num_core.specs.Integers.{lies_in, least, is_signed, width, number, in_range, InRange, IsOfKind}
+use Rattle.num_core.specs.Integers.{IsLeastByMinusOne}
 use Rattle.num_core.proofs.IntegerLaws.{fits_from_lies, lies_from_fits, lies_from_below, below_from_lies, reading_lies}
 
 mag_neg : (n : ℕ) → mag (neg_ℤ (pos n)) ≡ n - 1

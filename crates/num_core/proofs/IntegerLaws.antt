@@ -1,5 +1,7 @@
 -- What the words of `specs/Integers.antt` say of one another, at any width.
-use Rattle.std.proofs.Common.{SomeIff, ◌↔◌, Some, None, IfSome, if◌then◌else◌, ◌≡◌, ◌∙◌, sym, ap, subst, refl, ℕ, suc, ◌+◌, ◌-◌, ◌%◌, ◌^◌, ◌<◌, ◌≤◌, ℤ, pos, negsuc, ◌-ℤ◌, ◌≤ℤ◌, ◌<ℤ◌, int_le, unsigned_abs, FitsSigned, Bool, true, false, ◌&&◌, IsTrue, arith}
+use Rattle.std.proofs.Common.{SomeIff, ◌↔◌, Some, None, IfSome, if◌then◌else◌, ◌≡◌, ◌∙◌, sym, ap, subst, refl, ℕ, suc}
+use Rattle.std.proofs.Common.{◌+◌, ◌-◌, ◌%◌, ◌^◌, ◌<◌, ◌≤◌, ℤ, pos, negsuc, ◌-ℤ◌, ◌≤ℤ◌, ◌<ℤ◌, int_le, unsigned_abs}
+use Rattle.std.proofs.Common.{FitsSigned, Bool, true, false, ◌&&◌, IsTrue, arith}
 use Rattle.std.proofs.lemmas.Int.{ints, to_z-of_z, of_z-to_z, int_wrap_fits, SFits-int_wrap}
 use Rattle.std.proofs.lemmas.Bool.{ltb-true, ltb-false, and_parts, and_from, false≢true, le-leb}
 use Rattle.std.specs.Int.{Width, w8, w16, w32, w64, w128, int_wrap, int_rem_euclid, cast_signed, cast_unsigned}
@@ -8,7 +10,9 @@ use lib.Dec.{ltb}
 use mir.ValLaws.{of_z_fits}
 use lib.Pow.{pow_pos}
 use native.Mathlib.Nat.{mod-eq_of_lt, mod-lt}
-use Rattle.num_core.specs.Integers.{modulus, least, greatest, lies_in, wrapped, reading, is_signed, width, number, in_range, held, is_signed_type, width_of_type, kind_of_type, in_range_of_type, wrapped_to_type, checked_to_type}
+use Rattle.num_core.specs.Integers.{modulus, least, greatest, lies_in, wrapped, reading, is_signed, width, number}
+use Rattle.num_core.specs.Integers.{in_range, held, is_signed_type, width_of_type, kind_of_type, in_range_of_type}
+use Rattle.num_core.specs.Integers.{wrapped_to_type, checked_to_type}
 use Rattle.num_core.specs.declared.kind.Kind.{Kind}
 use Rattle.num_core.specs.declared.kind.Kind.TheVariants.{I4, U4, I8, U8}
 use Rattle.num_core.specs.declared.kind.Narrow.{Narrow}

@@ -1,10 +1,12 @@
 -- What holds of runs, how a simulation of single steps gives one of whole runs, and how two of these compose.
-use Rattle.std.proofs.Common.{◌≡◌, ◌∙◌, ℕ, zero, suc, ◌+◌, ◌-◌, ◌*◌, ◌<◌, ◌≤◌, List, [], ◌∷◌, ◌++◌, length, slice_index, refl, sym, ap, arith, subst, ◌⊎◌, inl, inr}
+use Rattle.std.proofs.Common.{◌≡◌, ◌∙◌, ℕ, zero, suc, ◌+◌, ◌-◌, ◌*◌, ◌<◌, ◌≤◌, List, [], ◌∷◌, ◌++◌, length, slice_index}
+use Rattle.std.proofs.Common.{refl, sym, ap, arith, subst, ◌⊎◌, inl, inr}
 use Rattle.std.proofs.Math.ListN.{get_or-append}
 use Rattle.std.proofs.Math.Nat.{add-mul, suc-mul}
 use Rattle.std.proofs.Math.Seq.{get_or-append_seam}
 use Rattle.std.proofs.lemmas.List.{length_push}
-use Rattle.num_core.specs.Run.{Run, Running, Ended, Stopped, Streams, one_more, after, Same, KeepsStep, Through, LooksTheSame}
+use Rattle.num_core.specs.Run.{Run, Running, Ended, Stopped, Streams, one_more, after, Same, KeepsStep, Through}
+use Rattle.num_core.specs.Run.{LooksTheSame}
 
 -- n steps and then m more are m + n steps
 pub after-add : {State Cause : Type 0} (step : State → Streams → Run State Cause) (m n : ℕ) (run : Run State Cause)

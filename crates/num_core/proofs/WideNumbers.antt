@@ -1,5 +1,7 @@
 -- The code computes at 128 bits, where a sum, a difference, a quotient and a remainder of numbers of 65 bits are exact.
-use Rattle.std.proofs.Common.{lit<, suc, ◌%◌, refl, Bool, true, false, IsTrue, int_le, Some, None, if◌then◌else◌, ◌≡◌, ◌∙◌, ap, subst, sym, ℕ, ◌+◌, ◌-◌, ◌*◌, ◌^◌, ◌<◌, ◌≤◌, ℤ, pos, negsuc, neg_ℤ, ◌+ℤ◌, ◌-ℤ◌, ◌*ℤ◌, ◌≤ℤ◌, ◌<ℤ◌, FitsSigned, to_z, of_z, arith}
+use Rattle.std.proofs.Common.{lit<, suc, ◌%◌, refl, Bool, true, false, IsTrue, int_le, Some, None, if◌then◌else◌, ◌≡◌}
+use Rattle.std.proofs.Common.{◌∙◌, ap, subst, sym, ℕ, ◌+◌, ◌-◌, ◌*◌, ◌^◌, ◌<◌, ◌≤◌, ℤ, pos, negsuc, neg_ℤ, ◌+ℤ◌, ◌-ℤ◌}
+use Rattle.std.proofs.Common.{◌*ℤ◌, ◌≤ℤ◌, ◌<ℤ◌, FitsSigned, to_z, of_z, arith}
 use Rattle.std.proofs.lemmas.Int.{ints, to_z-of_z, to_z_pos}
 use Rattle.std.specs.Int.{w32, w64, w128}
 use mir.ValLaws.{of_z_fits}

@@ -3,7 +3,8 @@
 --     number kind a      the whole number that the held value a stands for
 --     held kind z        the value that holds the whole number z, wrapped
 --     checked kind z     the same, or None where z is out of the kind's range
-use Rattle.std.specs.Prelude.{ℕ, ◌-◌, ◌%◌, ◌^◌, ℤ, pos, negsuc, ◌*ℤ◌, int_le, FitsSigned, Bool, true, false, ◌&&◌, IsTrue, Option, Some, None, if◌then◌else◌, ◌≡◌}
+use Rattle.std.specs.Prelude.{ℕ, ◌-◌, ◌%◌, ◌^◌, ℤ, pos, negsuc, ◌*ℤ◌, int_le, FitsSigned, Bool, true, false, ◌&&◌}
+use Rattle.std.specs.Prelude.{IsTrue, Option, Some, None, if◌then◌else◌, ◌≡◌}
 use Rattle.std.specs.Int.{Width, w8, w16, w32, w64, int_wrap, int_rem_euclid, int_div_euclid, cast_unsigned}
 use mir.Val.{bits, hbits}
 use Rattle.num_core.specs.declared.kind.Kind.{Kind}

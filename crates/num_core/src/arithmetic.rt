@@ -1,6 +1,10 @@
-ghost use Rattle.std.specs.Prelude.{◌≡◌, true, false, ◌^◌, ◌<◌, neg_ℤ, ◌≤ℤ◌, ◌<ℤ◌, ◌+ℤ◌, ◌-ℤ◌, ◌*ℤ◌, pos, negsuc, int_div, int_rem, IfOk, IfSome, IsErrOf, ◌↔◌, IsTrue, Option};
+ghost use Rattle.std.specs.Prelude.{◌≡◌, true, false, ◌^◌, ◌<◌, neg_ℤ, ◌≤ℤ◌, ◌<ℤ◌, ◌+ℤ◌, ◌-ℤ◌, ◌*ℤ◌, pos, negsuc};
+ghost use Rattle.std.specs.Prelude.{int_div, int_rem, IfOk, IfSome, IsErrOf, ◌↔◌, IsTrue, Option};
 ghost use Rattle.num_core.specs.declared.arithmetic.DivFault.TheVariants as DivFault;
-ghost use Rattle.num_core.specs.Integers.{IsOfKind, number, held, in_range, checked, least, greatest, is_signed, width, is_signed_type, width_of_type, kind_of_type, reading, in_range_of_type, modulus, wrapped_to_type, converted, checked_to_type, IsLeastByMinusOne, shift_amount, shifted};
+ghost use Rattle.num_core.specs.Integers.{IsOfKind, number, held, in_range, checked, least, greatest, is_signed, width};
+ghost use Rattle.num_core.specs.Integers.{is_signed_type, width_of_type, kind_of_type, reading, in_range_of_type};
+ghost use Rattle.num_core.specs.Integers.{modulus, wrapped_to_type, converted, checked_to_type, IsLeastByMinusOne};
+ghost use Rattle.num_core.specs.Integers.{shift_amount, shifted};
 
 use crate::int::{wrap32, wrap64};
 use crate::kind::{Kind, Narrow, ShiftOp};

@@ -1,12 +1,16 @@
 //! Laws of the integers, for the proofs of the crates above. Each function does nothing, and ensures
 //! its laws of all values.
-ghost use Rattle.std.specs.Prelude.{ℤ, ℕ, ◌≡◌, ◌+ℤ◌, ◌-ℤ◌, ◌*ℤ◌, ◌≤ℤ◌, ◌%◌, ◌^◌, ◌<◌, ◌↔◌, pos, int_lt, int_div, int_rem, FitsSigned, SomeIff, bit_and, IsTrue};
-ghost use Rattle.std.specs.Int.{Width, w32, w64, int_wrap, int_rem_euclid, cast_signed, cast_unsigned, int_shr, int_bit_not, int_bit_and, int_bit_or, int_bit_xor};
+ghost use Rattle.std.specs.Prelude.{ℤ, ℕ, ◌≡◌, ◌+ℤ◌, ◌-ℤ◌, ◌*ℤ◌, ◌≤ℤ◌, ◌%◌, ◌^◌, ◌<◌, ◌↔◌, pos, int_lt, int_div};
+ghost use Rattle.std.specs.Prelude.{int_rem, FitsSigned, SomeIff, bit_and, IsTrue};
+ghost use Rattle.std.specs.Int.{Width, w32, w64, int_wrap, int_rem_euclid, cast_signed, cast_unsigned, int_shr};
+ghost use Rattle.std.specs.Int.{int_bit_not, int_bit_and, int_bit_or, int_bit_xor};
 ghost use Rattle.num_core.specs.declared.kind.Kind.{Kind};
 ghost use Rattle.num_core.specs.declared.kind.Kind.TheVariants.{I4, U4, I8, U8};
 ghost use Rattle.num_core.specs.declared.kind.Narrow.{Narrow};
 ghost use Rattle.num_core.specs.declared.kind.ShiftOp.TheVariants.{Right};
-ghost use Rattle.num_core.specs.Integers.{IsOfKind, InRange, number, held, checked, least, greatest, is_signed, width, modulus, shift_amount, shifted, in_range_of_type, wrapped_to_type, kind_of_type, IsLeastByMinusOne};
+ghost use Rattle.num_core.specs.Integers.{IsOfKind, InRange, number, held, checked, least, greatest, is_signed, width};
+ghost use Rattle.num_core.specs.Integers.{modulus, shift_amount, shifted, in_range_of_type, wrapped_to_type};
+ghost use Rattle.num_core.specs.Integers.{kind_of_type, IsLeastByMinusOne};
 
 /// A value of a kind holds each number of the range, and no other.
 pub fn held_values()

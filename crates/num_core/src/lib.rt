@@ -19,6 +19,3 @@ pub use kind::{Kind, Narrow, ShiftOp};
 pub use list::{Bytes, List, Units};
 pub use memory::Memory;
 pub use text::{Text, TextFault};
-
-#[cfg(test)]
-mod tests;

@@ -1,4 +1,5 @@
-ghost use Rattle.std.specs.Prelude.{◌≡◌, [], ◌∷◌, ◌++◌, ◌↔◌, length, IsTrue, IfOk, OnOk, OnErr, IfErr, slice_get, take, drop, replicate, ◌+◌, ◌-◌, ◌≤◌};
+ghost use Rattle.std.specs.Prelude.{◌≡◌, [], ◌∷◌, ◌++◌, ◌↔◌, length, IsTrue, IfOk, OnOk, OnErr, IfErr, slice_get, take};
+ghost use Rattle.std.specs.Prelude.{drop, replicate, ◌+◌, ◌-◌, ◌≤◌};
 ghost use Rattle.std.specs.Option.{option_copied};
 
 use crate::memory::Memory;

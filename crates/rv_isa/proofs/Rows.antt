@@ -1,13 +1,20 @@
 -- The instruction of a legal instruction's word is that instruction, and the word of the instruction that
 -- is found is the word.
-use Rattle.std.proofs.Common.{◌≡◌, ℕ, ◌<◌, ◌^◌, ◌/◌, ◌==◌, Some, Option, Bool, true, false, cond, refl, ap, sym, subst, ◌∙◌, arith, lit<}
+use Rattle.std.proofs.Common.{◌≡◌, ℕ, ◌<◌, ◌^◌, ◌/◌, ◌==◌, Some, Option, Bool, true, false, cond, refl, ap, sym, subst}
+use Rattle.std.proofs.Common.{◌∙◌, arith, lit<}
 use Rattle.std.specs.Prelude.{IfSome}
 use Rattle.std.proofs.lemmas.Bool.{eqb-true}
 use Rattle.rv_isa.specs.declared.ins.Ins.{Ins}
 use Rattle.rv_isa.specs.Instructions.{word_of, IsLegal}
 use Rattle.rv_isa.specs.Parts.{Parts, parts_of, IsParts, whole}
-use Rattle.rv_isa.specs.Rows.{instruction, shift_left_row, shift_right_row, word_shift_left_row, word_shift_right_row, jalr_row, branch_row, load_row, store_row, op_imm_row, op_imm_32_row, op_base_row, op_alternate_row, op_multiply_row, op_32_base_row, op_32_alternate_row, op_32_multiply_row, op_row, op_32_row, system_row}
-use Rattle.rv_isa.proofs.WordParts.{r_parts, i_parts, i_imm, s_parts, s_imm, b_parts, b_imm, u_parts, u_imm, j_parts, j_imm, shift_parts, upper_bits, shift_amount, r_whole, i_whole, s_whole, b_whole, u_whole, j_whole, shift_whole, i_imm_fits, s_imm_fits, b_imm_fits, j_imm_fits, u_imm_fits, shamt_fits}
+use Rattle.rv_isa.specs.Rows.{instruction, shift_left_row, shift_right_row, word_shift_left_row, word_shift_right_row}
+use Rattle.rv_isa.specs.Rows.{jalr_row, branch_row, load_row, store_row, op_imm_row, op_imm_32_row, op_base_row}
+use Rattle.rv_isa.specs.Rows.{op_alternate_row, op_multiply_row, op_32_base_row, op_32_alternate_row}
+use Rattle.rv_isa.specs.Rows.{op_32_multiply_row, op_row, op_32_row, system_row}
+use Rattle.rv_isa.proofs.WordParts.{r_parts, i_parts, i_imm, s_parts, s_imm, b_parts, b_imm, u_parts, u_imm, j_parts}
+use Rattle.rv_isa.proofs.WordParts.{j_imm, shift_parts, upper_bits, shift_amount, r_whole, i_whole, s_whole, b_whole}
+use Rattle.rv_isa.proofs.WordParts.{u_whole, j_whole, shift_whole, i_imm_fits, s_imm_fits, b_imm_fits, j_imm_fits}
+use Rattle.rv_isa.proofs.WordParts.{u_imm_fits, shamt_fits}
 
 pub known : (ins : Ins) → IsLegal ins → instruction (parts_of (word_of ins)) ≡ Some ins
 unfolding instruction

@@ -2,7 +2,8 @@
 use Rattle.std.proofs.Common.{ℕ, ◌<◌, ◌^◌, ℤ, arith, lit<}
 use Rattle.rv_isa.specs.declared.ins.Ins.{Ins}
 use Rattle.rv_isa.specs.Formats.{r_format, i_format, s_format, b_format, u_format, j_format, shift_format}
-use Rattle.rv_isa.specs.Instructions.{word_of, IsLegal, AreROperands, AreIOperands, AreSOperands, AreBOperands, AreUOperands, AreJOperands, AreShiftOperands}
+use Rattle.rv_isa.specs.Instructions.{word_of, IsLegal, AreROperands, AreIOperands, AreSOperands, AreBOperands}
+use Rattle.rv_isa.specs.Instructions.{AreUOperands, AreJOperands, AreShiftOperands}
 use Rattle.rv_isa.proofs.WordParts.{bits_12, bits_13, bits_21}
 
 r_fits : (opcode funct3 funct7 rd rs1 rs2 : ℕ) → opcode < 128 → funct3 < 8 → funct7 < 128 → AreROperands rd rs1 rs2

@@ -5,7 +5,8 @@ use Rattle.std.proofs.lemmas.Bool.Decides.{nat_tests}
 use Rattle.num_core.specs.Bits.{twos_complement, signed}
 use Rattle.rv_isa.specs.Operands.{IsImmediate, IsBranchOffset, IsJumpOffset}
 use Rattle.rv_isa.specs.Formats.{r_format, i_format, s_format, b_format, u_format, j_format, shift_format}
-use Rattle.rv_isa.specs.Parts.{Parts, parts_of, i_imm_of, s_imm_of, b_imm_of, u_imm_of, j_imm_of, shamt_of, IsParts, whole}
+use Rattle.rv_isa.specs.Parts.{Parts, parts_of, i_imm_of, s_imm_of, b_imm_of, u_imm_of, j_imm_of, shamt_of, IsParts}
+use Rattle.rv_isa.specs.Parts.{whole}
 
 abbrev pub parts : ℕ → ℕ → ℕ → ℕ → ℕ → ℕ → Parts
 parts opcode rd funct3 rs1 rs2 funct7 =

@@ -1,5 +1,7 @@
 -- What an assembler has taken down, and the program that it stands for.
-use Rattle.std.specs.Prelude.{ℕ, ◌+◌, ◌*◌, ◌<◌, ℤ, pos, negsuc, ◌-ℤ◌, Bool, true, nat_lt, List, [], ◌∷◌, ◌++◌, length, Option, Some, None, IfSome, unwrap_or, slice_index_or, slice_set, IsSome, All, if◌then◌else◌}
+use Rattle.std.specs.Prelude.{ℕ, ◌+◌, ◌*◌, ◌<◌, ℤ, pos, negsuc, ◌-ℤ◌, Bool, true, nat_lt, List, [], ◌∷◌, ◌++◌, length}
+use Rattle.std.specs.Prelude.{Option, Some, None, IfSome, unwrap_or, slice_index_or, slice_set, IsSome, All}
+use Rattle.std.specs.Prelude.{if◌then◌else◌}
 use Rattle.std.specs.List.{flat_map}
 use Rattle.byteorder.specs.Endian.{little_bytes}
 use Rattle.rv_isa.specs.declared.assembler.Emitted.{Emitted}

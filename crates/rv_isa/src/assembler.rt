@@ -1,9 +1,13 @@
-ghost use Rattle.std.specs.Prelude.{◌≡◌, ◌<◌, ◌++◌, [], ℕ, Some, None, length, slice_get, IfOk, OnOk, OnErr, IfSome, MatchResult, if◌then◌else◌};
+ghost use Rattle.std.specs.Prelude.{◌≡◌, ◌<◌, ◌++◌, [], ℕ, Some, None, length, slice_get, IfOk, OnOk, OnErr, IfSome};
+ghost use Rattle.std.specs.Prelude.{MatchResult, if◌then◌else◌};
 ghost use Rattle.byteorder.specs.Endian.{little_bytes};
 ghost use Rattle.std.specs.List.{AllByRecursion};
 ghost use Rattle.rv_isa.specs.Operands.{IsEven};
 ghost use Rattle.rv_isa.specs.Instructions.{IsLegal};
-ghost use Rattle.rv_isa.specs.Assembly.{IsJumpOrBranch, AreGiven, AreBound, appended, labelled, bound, filled as filled_in, filled_from, missed, missed_from, with_distance, is_in_reach, is_in_jump_reach, is_in_branch_reach, program, out_of_reach, bytes_of};
+ghost use Rattle.rv_isa.specs.Assembly.{IsJumpOrBranch, AreGiven, AreBound, appended, labelled, bound};
+ghost use Rattle.rv_isa.specs.Assembly.{filled as filled_in, filled_from, missed, missed_from, with_distance};
+ghost use Rattle.rv_isa.specs.Assembly.{is_in_reach, is_in_jump_reach, is_in_branch_reach, program, out_of_reach};
+ghost use Rattle.rv_isa.specs.Assembly.{bytes_of};
 
 use crate::encoding::encode;
 use crate::ins::Ins;

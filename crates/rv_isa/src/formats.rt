@@ -1,6 +1,7 @@
 ghost use Rattle.std.specs.Prelude.{◌≡◌, ◌<◌};
 ghost use Rattle.rv_isa.specs.Formats as formats;
-ghost use Rattle.rv_isa.specs.Instructions.{AreROperands, AreIOperands, AreSOperands, AreBOperands, AreUOperands, AreJOperands, AreShiftOperands, AreWordShiftOperands};
+ghost use Rattle.rv_isa.specs.Instructions.{AreROperands, AreIOperands, AreSOperands, AreBOperands, AreUOperands};
+ghost use Rattle.rv_isa.specs.Instructions.{AreJOperands, AreShiftOperands, AreWordShiftOperands};
 
 use crate::operands::{
     BranchOffset, Immediate, JumpOffset, Register, ShiftAmount, UpperImmediate, WordShiftAmount,

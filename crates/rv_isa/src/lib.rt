@@ -19,6 +19,3 @@ pub use ins::Ins;
 pub use operands::{
     BranchOffset, Immediate, JumpOffset, Register, ShiftAmount, UpperImmediate, WordShiftAmount,
 };
-
-#[cfg(test)]
-mod tests;

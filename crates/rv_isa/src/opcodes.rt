@@ -1,5 +1,8 @@
 ghost use Rattle.std.specs.Prelude.{◌≡◌};
-ghost use Rattle.rv_isa.specs.Rows.{instruction, shift_left_row, shift_right_row, word_shift_left_row, word_shift_right_row, jalr_row, branch_row, load_row, store_row, op_imm_row, op_imm_32_row, op_base_row, op_alternate_row, op_multiply_row, op_32_base_row, op_32_alternate_row, op_32_multiply_row, op_row, op_32_row, system_row};
+ghost use Rattle.rv_isa.specs.Rows.{instruction, shift_left_row, shift_right_row, word_shift_left_row};
+ghost use Rattle.rv_isa.specs.Rows.{word_shift_right_row, jalr_row, branch_row, load_row, store_row, op_imm_row};
+ghost use Rattle.rv_isa.specs.Rows.{op_imm_32_row, op_base_row, op_alternate_row, op_multiply_row, op_32_base_row};
+ghost use Rattle.rv_isa.specs.Rows.{op_32_alternate_row, op_32_multiply_row, op_row, op_32_row, system_row};
 
 use crate::fields::Fields;
 use crate::ins::Ins;

@@ -1,5 +1,7 @@
 -- What loads, stores, fetching and calls of the environment do with bytes at addresses.
-use Rattle.std.proofs.Common.{◌≡◌, ◌∙◌, refl, sym, ap, subst, ℕ, ◌+◌, ◌-◌, ◌%◌, ◌^◌, ◌<◌, ◌≤◌, ◌⊎◌, inl, inr, Bool, true, cond, ◌==◌, min, List, [], length, take, drop, get_or, Some, None, append-nil, length-append, length-take, length-drop, arith}
+use Rattle.std.proofs.Common.{◌≡◌, ◌∙◌, refl, sym, ap, subst, ℕ, ◌+◌, ◌-◌, ◌%◌, ◌^◌, ◌<◌, ◌≤◌, ◌⊎◌, inl, inr, Bool}
+use Rattle.std.proofs.Common.{true, cond, ◌==◌, min, List, [], length, take, drop, get_or, Some, None, append-nil}
+use Rattle.std.proofs.Common.{length-append, length-take, length-drop, arith}
 use Rattle.std.specs.Prelude.{slice_index}
 use Rattle.std.specs.Option.{option_map}
 use Rattle.std.proofs.lemmas.Bool.{cases_lt}
@@ -7,12 +9,16 @@ use Rattle.std.proofs.lemmas.List.{get_or-append_right, get_or-drop, drop_min}
 use Rattle.byteorder.specs.Endian.{little_number, little_bytes}
 use Rattle.byteorder.specs.Numbers.{little_number-reads_back, length-bytes_low_first}
 use Rattle.num_core.specs.Run.{Running, Streams}
-use Rattle.rv_step.specs.Machine.{MachineState, register, with_register, next_pc, bytes_at, with_bytes_at, gives, gives_loaded, loads, stores, goes_on_with, traps, fetched, filled, reads, reads_into, goes_on_read, writes}
+use Rattle.rv_step.specs.Machine.{MachineState, register, with_register, next_pc, bytes_at, with_bytes_at, gives}
+use Rattle.rv_step.specs.Machine.{gives_loaded, loads, stores, goes_on_with, traps, fetched, filled, reads, reads_into}
+use Rattle.rv_step.specs.Machine.{goes_on_read, writes}
 use Rattle.rv_step.specs.Memory.{byte_in, Bytes, Number, is_allowed, MayRead, MayWrite, MayExecute, AreApart, Writes}
 use Rattle.rv_step.specs.Segments.{AreSegments}
 use Rattle.rv_step.specs.declared.segment.Segment.{Segment}
 use Rattle.rv_step.specs.declared.trap.Cause.TheVariants.{Load, Store}
-use Rattle.rv_step.proofs.Addresses.{parted, from_each, at_each, one_reading, split, read_at, read_bytes, readable, unreadable, writable, unwritable, written_at, kept_at, written_bytes, allows_the_same, segments_kept, before_or_behind, writes_by}
+use Rattle.rv_step.proofs.Addresses.{parted, from_each, at_each, one_reading, split, read_at, read_bytes, readable}
+use Rattle.rv_step.proofs.Addresses.{unreadable, writable, unwritable, written_at, kept_at, written_bytes}
+use Rattle.rv_step.proofs.Addresses.{allows_the_same, segments_kept, before_or_behind, writes_by}
 use Rattle.rv_step.proofs.Requests.{not_zero, writes_some}
 
 reads_back : (count number : ℕ) → number < 256 ^ count → little_number count (little_bytes count number) ≡ number

@@ -4,7 +4,8 @@ use Rattle.std.specs.Option.{option_map}
 use Rattle.byteorder.specs.Endian.{little_number, little_bytes}
 use Rattle.num_core.specs.Run.{Running}
 use Rattle.rv_isa.specs.declared.ins.Ins.{Ins}
-use Rattle.rv_step.specs.Machine.{MachineState, effect, gives, gives_loaded, loads, stores, goes_on_with, bytes_at, with_bytes_at, next_pc}
+use Rattle.rv_step.specs.Machine.{MachineState, effect, gives, gives_loaded, loads, stores, goes_on_with, bytes_at}
+use Rattle.rv_step.specs.Machine.{with_bytes_at, next_pc}
 use Rattle.rv_step.specs.Steps.{Does}
 use Rattle.rv_step.specs.declared.trap.Cause.{Cause}
 use Rattle.rv_step.specs.declared.trap.Cause.TheVariants.{Store}

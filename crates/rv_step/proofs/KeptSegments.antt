@@ -1,5 +1,6 @@
 -- A step moves no segment, and changes nothing of what may be done with it.
-use Rattle.std.proofs.Common.{◌≡◌, refl, sym, ap, subst, ℕ, Bool, true, false, cond, ◌==◌, min, List, length, Option, Some, None}
+use Rattle.std.proofs.Common.{◌≡◌, refl, sym, ap, subst, ℕ, Bool, true, false, cond, ◌==◌, min, List, length, Option}
+use Rattle.std.proofs.Common.{Some, None}
 use Rattle.std.specs.Int.{cast_signed, w8, w16, w32}
 use Rattle.std.specs.Option.{option_map}
 use Rattle.byteorder.specs.Endian.{little_number, little_bytes}
@@ -8,7 +9,10 @@ use Rattle.num_core.specs.Run.{Run, Running, Ended, Stopped, Streams}
 use Rattle.rv_isa.specs.declared.ins.Ins.{Ins}
 use Rattle.rv_isa.specs.Parts.{parts_of}
 use Rattle.rv_isa.specs.Rows.{instruction}
-use Rattle.rv_step.specs.Machine.{MachineState, register, with_register, next_pc, address, gives, loads, stores, gives_loaded, goes_on_with, bytes_at, with_bytes_at, filled, goes_on_read, reads_into, writes_from, writes, to_output, to_error, request, answers, effect, fetched, on_word, on_instruction, machine_step}
+use Rattle.rv_step.specs.Machine.{MachineState, register, with_register, next_pc, address, gives, loads, stores}
+use Rattle.rv_step.specs.Machine.{gives_loaded, goes_on_with, bytes_at, with_bytes_at, filled, goes_on_read, reads_into}
+use Rattle.rv_step.specs.Machine.{writes_from, writes, to_output, to_error, request, answers, effect, fetched, on_word}
+use Rattle.rv_step.specs.Machine.{on_instruction, machine_step}
 use Rattle.rv_step.specs.Memory.{is_allowed, AllowsTheSame}
 use Rattle.rv_step.specs.Segments.{AreSegments}
 use Rattle.rv_step.specs.declared.segment.Segment.{Segment}

@@ -1,10 +1,14 @@
 -- The calls of the environment that read and write.
-use Rattle.std.proofs.Common.{◌≡◌, ◌∙◌, ℕ, zero, suc, ◌<◌, ◌≤◌, Bool, true, false, cond, ◌==◌, ◌⊎◌, inl, inr, min, List, [], ◌++◌, length, drop, Option, Some, refl, sym, ap, subst, append-nil, arith}
+use Rattle.std.proofs.Common.{◌≡◌, ◌∙◌, ℕ, zero, suc, ◌<◌, ◌≤◌, Bool, true, false, cond, ◌==◌, ◌⊎◌, inl, inr, min, List}
+use Rattle.std.proofs.Common.{[], ◌++◌, length, drop, Option, Some, refl, sym, ap, subst, append-nil, arith}
 use Rattle.std.proofs.Math.Seq.{drop-append_seam}
 use Rattle.num_core.specs.Run.{Running, Streams, Outside}
-use Rattle.rv_step.specs.Machine.{MachineState, register, with_register, next_pc, gives, bytes_at, with_bytes_at, filled, reads, reads_into, goes_on_read, writes, writes_from, to_output, to_error, request, answers, environment_call}
+use Rattle.rv_step.specs.Machine.{MachineState, register, with_register, next_pc, gives, bytes_at, with_bytes_at}
+use Rattle.rv_step.specs.Machine.{filled, reads, reads_into, goes_on_read, writes, writes_from, to_output, to_error}
+use Rattle.rv_step.specs.Machine.{request, answers, environment_call}
 use Rattle.rv_step.specs.Outcomes.{outside}
-use Rattle.rv_step.specs.Steps.{Exchange, EndIsTrue, StepsOn, ReadBreaksOff, WriteBreaksOff, Wrote, WroteSome, FilledSegments, streams_before}
+use Rattle.rv_step.specs.Steps.{Exchange, EndIsTrue, StepsOn, ReadBreaksOff, WriteBreaksOff, Wrote, WroteSome}
+use Rattle.rv_step.specs.Steps.{FilledSegments, streams_before}
 use Rattle.rv_step.specs.declared.segment.Segment.{Segment}
 use Rattle.rv_step.specs.declared.calls.Request.{Request}
 use Rattle.rv_step.proofs.Steps.{steps_quietly, nothing_taken, nothing_written}

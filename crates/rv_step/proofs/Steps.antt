@@ -1,5 +1,7 @@
 -- From what a step does in the midst of a run to what a run has done.
-use Rattle.std.proofs.Common.{◌≡◌, ◌∙◌, ℕ, ◌+◌, ◌-◌, ◌<◌, Bool, true, false, List, [], ◌++◌, length, take, drop, Option, Some, None, Result, Ok, Err, IfSome, ◌⊎◌, inl, inr, unwrap_or, refl, sym, ap, subst, append_assoc, append-nil, length-append, add-one, arith}
+use Rattle.std.proofs.Common.{◌≡◌, ◌∙◌, ℕ, ◌+◌, ◌-◌, ◌<◌, Bool, true, false, List, [], ◌++◌, length, take, drop, Option}
+use Rattle.std.proofs.Common.{Some, None, Result, Ok, Err, IfSome, ◌⊎◌, inl, inr, unwrap_or, refl, sym, ap, subst}
+use Rattle.std.proofs.Common.{append_assoc, append-nil, length-append, add-one, arith}
 use Rattle.std.proofs.Math.Seq.{take-append_seam, drop-append_seam}
 use Rattle.std.specs.Option.{option_map}
 use Rattle.num_core.specs.Run.{Run, Running, Ended, Stopped, Streams, Outside, Passes, after, one_more}
@@ -7,9 +9,12 @@ use Rattle.rv_isa.specs.declared.ins.Ins.{Ins}
 use Rattle.rv_isa.specs.declared.ins.Ins.TheVariants.{Ecall}
 use Rattle.rv_isa.specs.Parts.{parts_of}
 use Rattle.rv_isa.specs.Rows.{instruction}
-use Rattle.rv_step.specs.Machine.{MachineState, machine_step, machine_run, fetched, effect, on_word, on_instruction, environment_call, traps}
-use Rattle.rv_step.specs.Outcomes.{Requests, SinkCounts, Asks, GoesOn, EndsAfter, TrapsWithin, ReadFailsWithin, WriteFailsWithin, Continues}
-use Rattle.rv_step.specs.Steps.{Exchange, Exchanges, nothing, EndIsTrue, streams_before, streams_after, StepsOn, StepEnds, StepTraps, ReadBreaksOff, WriteBreaksOff, StepAnswers, run_fault}
+use Rattle.rv_step.specs.Machine.{MachineState, machine_step, machine_run, fetched, effect, on_word, on_instruction}
+use Rattle.rv_step.specs.Machine.{environment_call, traps}
+use Rattle.rv_step.specs.Outcomes.{Requests, SinkCounts, Asks, GoesOn, EndsAfter, TrapsWithin, ReadFailsWithin}
+use Rattle.rv_step.specs.Outcomes.{WriteFailsWithin, Continues}
+use Rattle.rv_step.specs.Steps.{Exchange, Exchanges, nothing, EndIsTrue, streams_before, streams_after, StepsOn}
+use Rattle.rv_step.specs.Steps.{StepEnds, StepTraps, ReadBreaksOff, WriteBreaksOff, StepAnswers, run_fault}
 use Rattle.rv_step.specs.declared.calls.Request.{Request}
 use Rattle.rv_step.specs.declared.calls.Request.TheVariants.{ReadInput, WriteOutput, WriteError}
 use Rattle.rv_step.specs.declared.trap.Trap.{Trap}
@@ -17,7 +22,8 @@ use Rattle.rv_step.specs.declared.trap.Cause.TheVariants.{Fetch, Illegal}
 use Rattle.rv_step.specs.declared.fault.StepFault.{StepFault}
 use Rattle.rv_step.specs.declared.fault.StepFault.TheVariants.{Trap as Trapped, ReadFault, WriteFault}
 use Rattle.rv_step.specs.declared.fault.RunFault.{RunFault}
-use Rattle.rv_step.specs.declared.fault.RunFault.TheVariants.{Trap as RunTrapped, ReadFault as RunReadFault, WriteFault as RunWriteFault}
+use Rattle.rv_step.specs.declared.fault.RunFault.TheVariants.{Trap as RunTrapped, ReadFault as RunReadFault}
+use Rattle.rv_step.specs.declared.fault.RunFault.TheVariants.{WriteFault as RunWriteFault}
 
 -- ---- one step
 

@@ -1,5 +1,6 @@
 -- What one step of the machine does in the midst of a run, where the input isn't yet known beyond what was read.
-use Rattle.std.specs.Prelude.{◌≡◌, ℕ, ◌+◌, ◌<◌, Bool, true, List, [], ◌++◌, length, drop, Option, None, Some, Result, Ok, Err, IfSome, IfErr, OnOk, OnErr}
+use Rattle.std.specs.Prelude.{◌≡◌, ℕ, ◌+◌, ◌<◌, Bool, true, List, [], ◌++◌, length, drop, Option, None, Some, Result}
+use Rattle.std.specs.Prelude.{Ok, Err, IfSome, IfErr, OnOk, OnErr}
 use Rattle.std.specs.Option.{option_map}
 use Rattle.num_core.specs.Run.{Run, Running, Ended, Stopped, Streams, Outside}
 use Rattle.rv_step.specs.Machine.{MachineState, register, traps, overwritten, bytes_at, with_bytes_at}
@@ -9,7 +10,8 @@ use Rattle.rv_step.specs.declared.trap.Trap.{Trap}
 use Rattle.rv_step.specs.declared.trap.Cause.{Cause}
 use Rattle.rv_step.specs.declared.fault.StepFault.{StepFault}
 use Rattle.rv_step.specs.declared.fault.RunFault.{RunFault}
-use Rattle.rv_step.specs.declared.fault.RunFault.TheVariants.{Trap as RunTrapped, ReadFault as RunReadFault, WriteFault as RunWriteFault}
+use Rattle.rv_step.specs.declared.fault.RunFault.TheVariants.{Trap as RunTrapped, ReadFault as RunReadFault}
+use Rattle.rv_step.specs.declared.fault.RunFault.TheVariants.{WriteFault as RunWriteFault}
 use Rattle.rv_step.specs.declared.fault.StepFault.TheVariants.{Trap as Trapped, ReadFault, WriteFault}
 
 -- what was taken from the outside and written to it

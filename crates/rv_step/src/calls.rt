@@ -1,7 +1,9 @@
 //! Calls of the environment.
-ghost use Rattle.std.specs.Prelude.{◌≡◌, ◌+◌, ◌≤◌, ℕ, List, length, Option, OnOk, OnErr, IfOk, IfSome, Bool, [], ◌≢◌, true};
+ghost use Rattle.std.specs.Prelude.{◌≡◌, ◌+◌, ◌≤◌, ℕ, List, length, Option, OnOk, OnErr, IfOk, IfSome, Bool, [], ◌≢◌};
+ghost use Rattle.std.specs.Prelude.{true};
 ghost use Rattle.ilc_io.specs.Count.{next_count};
-ghost use Rattle.rv_step.specs.Machine.{environment_call, register, request as is_request, writes, reads, to_output, to_error, next_pc, with_register};
+ghost use Rattle.rv_step.specs.Machine.{environment_call, register, request as is_request, writes, reads, to_output};
+ghost use Rattle.rv_step.specs.Machine.{to_error, next_pc, with_register};
 ghost use Rattle.rv_step.specs.Outcomes.{outside, Requests, SinkCounts};
 ghost use Rattle.rv_step.specs.Steps.{StepAnswers, EndIsTrue, Wrote, WroteSome};
 

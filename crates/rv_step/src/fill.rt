@@ -1,5 +1,6 @@
 //! Reading into memory.
-ghost use Rattle.std.specs.Prelude.{◌≡◌, ◌⊎◌, ◌+◌, ◌-◌, ◌<◌, ◌≤◌, ℕ, true, [], length, IfOk, IfSome, IsTrue, OnOk, OnErr, None};
+ghost use Rattle.std.specs.Prelude.{◌≡◌, ◌⊎◌, ◌+◌, ◌-◌, ◌<◌, ◌≤◌, ℕ, true, [], length, IfOk, IfSome, IsTrue, OnOk};
+ghost use Rattle.std.specs.Prelude.{OnErr, None};
 ghost use Rattle.ilc_io.specs.Count.{next_count};
 ghost use Rattle.rv_step.specs.Machine.{bytes_at, covers};
 ghost use Rattle.rv_step.specs.Segments.{grants};

@@ -1,8 +1,10 @@
 //! Laws of memory, for the proofs of the crates above. The function does nothing, and ensures its laws of all machines.
-ghost use Rattle.std.specs.Prelude.{◌≡◌, ◌≢◌, ◌↔◌, ℕ, ◌+◌, ◌%◌, ◌^◌, ◌<◌, ◌≤◌, List, ◌++◌, length, take, drop, min, Some};
+ghost use Rattle.std.specs.Prelude.{◌≡◌, ◌≢◌, ◌↔◌, ℕ, ◌+◌, ◌%◌, ◌^◌, ◌<◌, ◌≤◌, List, ◌++◌, length, take, drop, min};
+ghost use Rattle.std.specs.Prelude.{Some};
 ghost use Rattle.byteorder.specs.Endian.{little_number, little_bytes};
 ghost use Rattle.num_core.specs.Run.{Running, Streams};
-ghost use Rattle.rv_step.specs.Machine.{MachineState, register, with_register, next_pc, gives, traps, loads, stores, reads, writes, fetched, machine_step};
+ghost use Rattle.rv_step.specs.Machine.{MachineState, register, with_register, next_pc, gives, traps, loads, stores};
+ghost use Rattle.rv_step.specs.Machine.{reads, writes, fetched, machine_step};
 ghost use Rattle.rv_step.specs.Memory.{Bytes, Number, MayRead, MayWrite, MayExecute, AllowsTheSame, Writes};
 ghost use Rattle.rv_step.specs.Segments.{AreSegments};
 ghost use Rattle.rv_step.specs.declared.trap.Cause.TheVariants.{Load, Store};

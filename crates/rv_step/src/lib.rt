@@ -20,6 +20,3 @@ pub use machine::Machine;
 pub use run::Ran;
 pub use segment::Segment;
 pub use trap::{Cause, Trap};
-
-#[cfg(test)]
-mod tests;

@@ -1,6 +1,9 @@
-ghost use Rattle.std.specs.Prelude.{◌≡◌, ◌<◌, ℕ, All, AllPairs, OnOk, OnErr, ◌⊎◌, ◌≤◌, [], true, IfOk, IfSome, length, option_copied, replicate, not, Some, None};
+ghost use Rattle.std.specs.Prelude.{◌≡◌, ◌<◌, ℕ, All, AllPairs, OnOk, OnErr, ◌⊎◌, ◌≤◌, [], true, IfOk, IfSome, length};
+ghost use Rattle.std.specs.Prelude.{option_copied, replicate, not, Some, None};
 ghost use Rattle.std.specs.Bool.{OnTrue, OnFalse};
-ghost use Rattle.rv_step.specs.Machine.{MachineState, fetched, register as value_of, next_pc, with_register, gives, jumps, branches, bytes_at as are_bytes_at, with_bytes_at, address as address_of};
+ghost use Rattle.rv_step.specs.Machine.{MachineState, fetched, register as value_of, next_pc, with_register, gives};
+ghost use Rattle.rv_step.specs.Machine.{jumps, branches, bytes_at as are_bytes_at, with_bytes_at};
+ghost use Rattle.rv_step.specs.Machine.{address as address_of};
 ghost use Rattle.rv_step.specs.Steps.{Does, FilledSegments};
 ghost use Rattle.ilc_io.specs.Count.{next_count};
 ghost use Rattle.rv_step.specs.Segments.{AreDisjoint, DoesNotWrap};

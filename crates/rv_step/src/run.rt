@@ -1,6 +1,7 @@
 ghost use Rattle.std.specs.Prelude.{◌≡◌, ◌≢◌, ℕ, ◌≤◌, IfOk};
 ghost use Rattle.ilc_io.specs.Count.{next_count};
-ghost use Rattle.rv_step.specs.Outcomes.{outside, Asks, SinkCounts, GoesOn, EndsAfter, TrapsWithin, ReadFailsWithin, WriteFailsWithin};
+ghost use Rattle.rv_step.specs.Outcomes.{outside, Asks, SinkCounts, GoesOn, EndsAfter, TrapsWithin, ReadFailsWithin};
+ghost use Rattle.rv_step.specs.Outcomes.{WriteFailsWithin};
 ghost use Rattle.rv_step.specs.declared.trap.Trap.{Trap};
 
 use crate::fault::{RunFault, StepFault};

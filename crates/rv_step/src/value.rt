@@ -2,7 +2,10 @@
 ghost use Rattle.std.specs.Prelude.{◌≡◌, ◌*◌, ◌/◌, ◌%◌, ◌^◌, ◌<◌, pos, ◌+ℤ◌, ◌-ℤ◌, ◌*ℤ◌, int_lt, nat_lt, ◌==◌};
 ghost use Rattle.std.specs.Int.{int_shr, cast_signed, cast_unsigned, w8, w16, w32, w64, w128};
 ghost use Rattle.num_core.specs.Bits.{low_bits};
-ghost use Rattle.rv_step.specs.Machine.{low_word, one_if as is_one_if, without_bit_0 as is_without_bit_0, signed_value, word_value, signed_word_value, upper_bits, quotient, remainder, unsigned_quotient, unsigned_remainder, word_quotient, word_remainder, unsigned_word_quotient, unsigned_word_remainder};
+ghost use Rattle.rv_step.specs.Machine.{low_word, one_if as is_one_if, without_bit_0 as is_without_bit_0, signed_value};
+ghost use Rattle.rv_step.specs.Machine.{word_value, signed_word_value, upper_bits, quotient, remainder};
+ghost use Rattle.rv_step.specs.Machine.{unsigned_quotient, unsigned_remainder, word_quotient, word_remainder};
+ghost use Rattle.rv_step.specs.Machine.{unsigned_word_quotient, unsigned_word_remainder};
 
 use rv_isa::{Immediate, JumpOffset, UpperImmediate};
 

@@ -1,5 +1,6 @@
 -- The quotient and the remainder at 128 bits are those of the numbers, and lie in the kind's range.
-use Rattle.std.proofs.Common.{rules, ◌≡◌, ◌≢◌, ◌∙◌, ap, sym, ℤ, negsuc, int_div, int_rem, FitsSigned, IsTrue, to_z, of_z}
+use Rattle.std.proofs.Common.{rules, ◌≡◌, ◌≢◌, ◌∙◌, ap, sym, ℤ, negsuc, int_div, int_rem, FitsSigned, IsTrue, to_z}
+use Rattle.std.proofs.Common.{of_z}
 use Rattle.std.proofs.lemmas.Int.{to_z-of_z}
 use Rattle.std.specs.Int.{w64, w128}
 use Rattle.num_core.specs.declared.kind.Kind.{Kind}
@@ -8,7 +9,8 @@ use Rattle.num_core.proofs.IntegerLaws.{reading_lies, reading-inside, number-zer
 use Rattle.num_core.proofs.DivisionLaws.{quotient_lies, remainder_lies}
 use Rattle.num_core.proofs.WideNumbers.{number_is, read_number_is, in_range_fits}
 use Rattle.num_core.proofs.arithmetic.div_rem.Goals as goal
-use Rattle.num_core.proofs.arithmetic.div_rem.Goals.{else-divisor-via-then-divisor+else-dividend-least, else-divisor-via-else-divisor}
+use Rattle.num_core.proofs.arithmetic.div_rem.Goals.{else-divisor-via-then-divisor+else-dividend-least}
+use Rattle.num_core.proofs.arithmetic.div_rem.Goals.{else-divisor-via-else-divisor}
 
 -- what is held of an exact number in range is read as that number
 read_back : (kind : Kind) (h r z : ℤ) → FitsSigned w64 h → h ≡ held kind (to_z w128 (of_z w128 r)) → r ≡ z

@@ -1,4 +1,5 @@
-use Rattle.num_core.proofs.WrapLaws.{int_wrap-twice, int_wrap-narrower, int_wrap-sum, int_wrap-difference, int_wrap-product}
+use Rattle.num_core.proofs.WrapLaws.{int_wrap-twice, int_wrap-narrower, int_wrap-sum, int_wrap-difference}
+use Rattle.num_core.proofs.WrapLaws.{int_wrap-product}
 use Rattle.std.proofs.Common.{lit≤}
 use Rattle.std.specs.Int.{w32, w64}
 use Rattle.num_core.proofs.laws.wrapping.Goals as goal

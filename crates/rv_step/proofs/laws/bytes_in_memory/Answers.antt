@@ -1,5 +1,6 @@
 use Rattle.rv_step.proofs.Addresses.{one_reading, split, joined, read_bytes, readable, allowed_within}
-use Rattle.rv_step.proofs.AddressLaws.{loads_by, loads_number, not_loaded, stored, not_stored, fetched_by, written_by, reads_by}
+use Rattle.rv_step.proofs.AddressLaws.{loads_by, loads_number, not_loaded, stored, not_stored, fetched_by, written_by}
+use Rattle.rv_step.proofs.AddressLaws.{reads_by}
 use Rattle.rv_step.proofs.KeptSegments.{step_keeps}
 use Rattle.rv_step.proofs.laws.bytes_in_memory.Goals as goal
 

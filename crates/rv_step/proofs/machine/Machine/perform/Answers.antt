@@ -4,7 +4,10 @@ use Rattle.std.specs.Int.{cast_signed, int_shr, w8, w16, w32}
 use Rattle.std.specs.Int.RustNames.{bit_and, bit_or, bit_xor, int_lt}
 use Rattle.rv_isa.specs.declared.ins.Ins.{Ins}
 use Rattle.num_core.specs.Bits.{low_bits}
-use Rattle.rv_step.specs.Machine.{register, address, gives, jumps, branches, loads, stores, low_word, one_if, without_bit_0, signed_value, word_value, signed_word_value, upper_bits, quotient, remainder, unsigned_quotient, unsigned_remainder, word_quotient, word_remainder, unsigned_word_quotient, unsigned_word_remainder}
+use Rattle.rv_step.specs.Machine.{register, address, gives, jumps, branches, loads, stores, low_word, one_if}
+use Rattle.rv_step.specs.Machine.{without_bit_0, signed_value, word_value, signed_word_value, upper_bits, quotient}
+use Rattle.rv_step.specs.Machine.{remainder, unsigned_quotient, unsigned_remainder, word_quotient, word_remainder}
+use Rattle.rv_step.specs.Machine.{unsigned_word_quotient, unsigned_word_remainder}
 use Rattle.rv_step.specs.Steps.{Does}
 use Rattle.rv_step.proofs.Effects.{same_instruction}
 use Rattle.rv_step.proofs.machine.Machine.perform.Goals as goal

@@ -2,7 +2,9 @@ use Rattle.std.proofs.Common.{arith, refl, ◌∙◌, ◌≡◌, ◌<◌, Ok, Er
 use Rattle.ilc_io.specs.Count.{next_count}
 use Rattle.rv_step.specs.Steps.{run_fault}
 use Rattle.rv_step.specs.declared.fault.RunFault.TheVariants.{Trap, ReadFault, WriteFault}
-use Rattle.rv_step.proofs.Steps.{progress_start, progress_more, progress_spent, step_ends, fault_traps, fault_reads, fault_writes, answers_at, write_keeps, run_write_fault, run_read_fault, told, asked_first, asked_which}
+use Rattle.rv_step.proofs.Steps.{progress_start, progress_more, progress_spent, step_ends, fault_traps, fault_reads}
+use Rattle.rv_step.proofs.Steps.{fault_writes, answers_at, write_keeps, run_write_fault, run_read_fault, told}
+use Rattle.rv_step.proofs.Steps.{asked_first, asked_which}
 use Rattle.rv_step.proofs.machine.Machine.run.Goals as goal
 
 pub loop-done-init : goal.loop-done-init

@@ -1,6 +1,7 @@
 use Rattle.std.proofs.Common.{lit<, refl, false, Ok, Err, Some, None}
 use Rattle.rv_step.specs.declared.fault.StepFault.TheVariants.{Trap, ReadFault, WriteFault}
-use Rattle.rv_step.proofs.Steps.{answers_at, progress_start, progress_more, goes_on, step_ends, step_traps, read_fails, write_fails, asked_first, asked_which}
+use Rattle.rv_step.proofs.Steps.{answers_at, progress_start, progress_more, goes_on, step_ends, step_traps, read_fails}
+use Rattle.rv_step.proofs.Steps.{write_fails, asked_first, asked_which}
 use Rattle.rv_step.proofs.machine.Machine.step.Goals as goal
 
 pub returns-clause-goes_on : goal.returns-clause-goes_on

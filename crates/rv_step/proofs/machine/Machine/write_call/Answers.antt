@@ -1,5 +1,6 @@
 use Rattle.rv_step.specs.Machine.{to_output, to_error}
-use Rattle.rv_step.proofs.Requests.{writes_nothing, wrote_output, wrote_error, broke_output, broke_error, there_by, zero_by, some_by, answered_by}
+use Rattle.rv_step.proofs.Requests.{writes_nothing, wrote_output, wrote_error, broke_output, broke_error, there_by}
+use Rattle.rv_step.proofs.Requests.{zero_by, some_by, answered_by}
 use Rattle.rv_step.proofs.machine.Machine.write_call.Goals as goal
 
 pub returns-then-count-eq0-clause-to_output : goal.returns-then-count-eq0-clause-to_output

@@ -1,8 +1,8 @@
 //! Extremes of every operation. The expected values were computed with the integers of Python.
 ghost use Rattle.num_core.specs.Integers.{IsOfKind};
 
-use crate::Kind::{I4, I8, U4, U8};
-use crate::{
+use num_core::Kind::{I4, I8, U4, U8};
+use num_core::{
     Bounds, Bytes, DivFault, Fix, FixKind, Kind, List, Narrow, ShiftOp, Text, TextFault, add_ovf,
     conv, conv_ovf, div_rem, mul_ovf, shift, sub_ovf, wrap32, wrap64,
 };

@@ -1,4 +1,4 @@
-use crate::{Flow, least_solution};
+use least_flow::{Flow, least_solution};
 use num_core::Memory;
 use std::alloc::Global;
 use std::test::Fail;

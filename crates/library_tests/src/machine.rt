@@ -1,16 +1,15 @@
 ghost use Rattle.std.specs.Prelude.{◌<◌, ◌^◌, length};
 
-use super::*;
 use byteorder::{ByteOrder, LittleEndian};
 use ilc_io::{MemSink, MemSource};
-use num_core::List;
-use rv_isa::Register;
+use num_core::{List, Memory};
+use rv_step::{Cause, Machine, Ran, RunFault, Segment, Trap};
 use std::alloc::Global;
 use std::process::Abort;
 use std::test::Fail;
 
 /// A machine whose only segment begins at 0x10000, where it starts, and allows everything.
-fn machine(alloc: Global, bytes: &[u8]) -> Result<Machine, Fail>
+fn machine(alloc: Global, bytes: &[u8]) -> Result<Machine, Memory>
     requires { length bytes.now < 2 ^ 32 }
 {
     let mut segments = List::new(alloc);
@@ -21,84 +20,74 @@ fn machine(alloc: Global, bytes: &[u8]) -> Result<Machine, Fail>
         write: true,
         execute: true,
     };
-    segments.push(segment).map_err(|_| num_core::Memory)?;
-    Ok(Machine::new(alloc, segments, 0x1_0000)?)
+    segments.push(segment).map_err(|_| Memory)?;
+    Machine::new(alloc, segments, 0x1_0000)
 }
 
-/// A run without input: how it comes out, and the machine behind it.
-fn ran(alloc: Global, bytes: &[u8], steps: u64) -> Result<(Result<Ran, RunFault>, Machine), Fail>
+/// How the run of code over this input comes out, and whether it writes these bytes. The reads and the writes with the
+/// numbers that are given fail.
+fn ran(
+    alloc: Global,
+    code: &[u8],
+    input: &[u8],
+    failing_reads: &[u64],
+    failing_writes: &[u64],
+    written: &[u8],
+) -> Result<(Result<Ran, RunFault>, bool), Memory>
+    requires { length code.now < 2 ^ 32 }
+{
+    let mut input = MemSource::new(alloc, input, failing_reads)?;
+    let mut out = MemSink::new(alloc, failing_writes)?;
+    let mut err = MemSink::new(alloc, &[])?;
+    let ran = machine(alloc, code)?.run(&mut input, &mut out, &mut err, 99);
+    Ok((ran, out.bytes() == written))
+}
+
+/// The first step of code: the status, if it is the end.
+fn first_step(alloc: Global, bytes: &[u8]) -> Result<Option<u8>, Fail>
     requires { length bytes.now < 2 ^ 32 }
 {
     let mut input = MemSource::new(alloc, &[], &[])?;
     let mut out = MemSink::new(alloc, &[])?;
     let mut err = MemSink::new(alloc, &[])?;
-    let mut m = machine(alloc, bytes)?;
-    let ran = m.run(&mut input, &mut out, &mut err, steps);
-    Ok((ran, m))
+    Ok(machine(alloc, bytes)?.step(&mut input, &mut out, &mut err)?)
 }
 
-static EXIT: [u8; 12] = [
-    0x13, 0x05, 0xa0, 0x12, // addi x10, x0, 298
-    0x93, 0x08, 0xd0, 0x05, // addi x17, x0, 93
-    0x73, 0x00, 0x00, 0x00, // ecall
-];
+/// addi x10, x0, 1, which is no end, and ecall
+static STEPS: [u8; 8] = [0x13, 0x05, 0x10, 0x00, 0x73, 0x00, 0x00, 0x00];
 
 #[test]
-fn ends_with_42(rt: HostRuntime) -> Result<(), Fail> {
-    let (whole, _) = ran(rt.alloc(), &EXIT, 3)?;
-    assert_eq!(rt;
-        whole,
-        Ok(Ran {
-            status: 42,
-            steps: 3
-        })
-    );
-    let (short, _) = ran(rt.alloc(), &EXIT, 2)?;
-    assert_eq!(rt; short, Err(RunFault::Spent(2)));
-    Ok(())
-}
-
-#[test]
-fn steps(rt: HostRuntime) -> Result<(), Fail> {
-    let mut input = MemSource::new(rt.alloc(), &[], &[])?;
-    let mut out = MemSink::new(rt.alloc(), &[])?;
-    let mut err = MemSink::new(rt.alloc(), &[])?;
-    let mut m = machine(rt.alloc(), &EXIT[4..])?;
-    assert_eq!(rt; m.step(&mut input, &mut out, &mut err), Ok(None));
-    // Its end is a step that can be done again.
-    assert_eq!(rt; m.step(&mut input, &mut out, &mut err), Ok(Some(0)));
-    assert_eq!(rt; m.step(&mut input, &mut out, &mut err), Ok(Some(0)));
+fn goes_on(rt: HostRuntime) -> Result<(), Fail> {
+    assert_eq!(rt; first_step(rt.alloc(), &STEPS)?, None);
     Ok(())
 }
 
 /// A word behind `addi x10, x0, 1`, and the trap that it makes.
-static TRAPS: [([u8; 4], u64, Cause); 5] = [
-    ([0x00, 0x00, 0x00, 0x00], 0x1_0004, Cause::Illegal),
+static TRAPS: [(u32, u64, Cause); 5] = [
+    (0x0000_0000, 0x1_0004, Cause::Illegal),
     // ecall
-    ([0x73, 0x00, 0x00, 0x00], 0x1_0004, Cause::Call),
+    (0x0000_0073, 0x1_0004, Cause::Call),
     // ld x10, 0(x0)
-    ([0x03, 0x35, 0x00, 0x00], 0x1_0004, Cause::Load),
+    (0x0000_3503, 0x1_0004, Cause::Load),
     // sd x10, 0(x0)
-    ([0x23, 0x30, 0xa0, 0x00], 0x1_0004, Cause::Store),
+    (0x00a0_3023, 0x1_0004, Cause::Store),
     // jalr x0, 0(x0)
-    ([0x67, 0x00, 0x00, 0x00], 0, Cause::Fetch),
+    (0x0000_0067, 0, Cause::Fetch),
 ];
 
-fn trap_so(rt: &impl Abort, alloc: Global, rows: &[([u8; 4], u64, Cause)]) -> Result<(), Fail> {
-    for ([a, b, c, d], pc, cause) in rows {
-        let (got, _) = ran(alloc, &[0x13, 0x05, 0x10, 0x00, *a, *b, *c, *d], 9)?;
+#[test]
+fn traps_at_its_pc(rt: HostRuntime) -> Result<(), Fail> {
+    for (word, pc, cause) in &TRAPS {
+        let mut code = STEPS;
+        LittleEndian::write_u32(&mut code[4..], *word);
         let trap = Trap {
             pc: *pc,
             cause: *cause,
         };
-        assert_eq!(rt; got, Err(RunFault::Trap(trap)));
+        let (outcome, _) = ran(rt.alloc(), &code, &[], &[], &[], &[])?;
+        assert!(rt; outcome == Err(RunFault::Trap(trap)), "{word:x}");
     }
     Ok(())
-}
-
-#[test]
-fn traps_at_its_pc(rt: HostRuntime) -> Result<(), Fail> {
-    trap_so(&rt, rt.alloc(), &TRAPS)
 }
 
 /// Instructions that make of x10 and x11 the number in x12.
@@ -188,27 +177,41 @@ static OTHERS: [Row; 13] = [
     (SLTU, LEAST, 0, 0),
 ];
 
-/// The word behind those that load x10 and x11, and the two numbers.
-fn program(word: u32, x: u64, y: u64) -> [u8; 32] {
-    // lui x5, 0x10; ld x10, 16(x5); ld x11, 24(x5)
+/// Makes x12 of the two numbers by the word, writes it, and ends with the number of bytes that were written.
+fn program(word: u32, x: u64, y: u64) -> [u8; 64] {
     let mut bytes = [
-        0xb7, 0x02, 0x01, 0x00, 0x03, 0xb5, 0x02, 0x01, 0x83, 0xb5, 0x82, 0x01, 0, 0, 0, 0, 0, 0,
-        0, 0, 0, 0, 0, 0, 0, 0, 0, 0, 0, 0, 0, 0,
+        0xb7, 0x02, 0x01, 0x00, // lui x5, 0x10
+        0x03, 0xb5, 0x02, 0x03, // ld x10, 48(x5)
+        0x83, 0xb5, 0x82, 0x03, // ld x11, 56(x5)
+        0x00, 0x00, 0x00, 0x00, // the word
+        0x23, 0xb8, 0xc2, 0x02, // sd x12, 48(x5)
+        0x13, 0x05, 0x10, 0x00, // addi x10, x0, 1
+        0x93, 0x85, 0x02, 0x03, // addi x11, x5, 48
+        0x13, 0x06, 0x80, 0x00, // addi x12, x0, 8
+        0x93, 0x08, 0x00, 0x04, // addi x17, x0, 64
+        0x73, 0x00, 0x00, 0x00, // ecall
+        0x93, 0x08, 0xd0, 0x05, // addi x17, x0, 93
+        0x73, 0x00, 0x00, 0x00, // ecall
+        0, 0, 0, 0, 0, 0, 0, 0, 0, 0, 0, 0, 0, 0, 0, 0,
     ];
     LittleEndian::write_u32(&mut bytes[12..16], word);
-    LittleEndian::write_u64(&mut bytes[16..24], x);
-    LittleEndian::write_u64(&mut bytes[24..], y);
+    LittleEndian::write_u64(&mut bytes[48..56], x);
+    LittleEndian::write_u64(&mut bytes[56..], y);
     bytes
 }
 
-fn give_so(rt: &impl Abort, alloc: Global, rows: &[Row]) -> Result<(), Fail> {
+/// Each instruction makes that of the two numbers.
+fn give_so(rt: &impl Abort, alloc: Global, rows: &[Row]) -> Result<(), Memory> {
     for (word, x, y, wanted) in rows {
-        let (spent, m) = ran(alloc, &program(*word, *x, *y), 4)?;
-        assert_eq!(rt; spent, Err(RunFault::Spent(4)));
-        assert_eq!(rt;
-            m.get(Register::of(12)),
-            *wanted,
-            "{word:x} of {x:x} and {y:x}"
+        let code = program(*word, *x, *y);
+        let (outcome, is_written) = ran(alloc, &code, &[], &[], &[], &wanted.to_le_bytes())?;
+        assert!(rt; is_written, "{word:x} of {x:x} and {y:x}");
+        assert!(rt;
+            outcome
+                == Ok(Ran {
+                    status: 8,
+                    steps: 12
+                })
         );
     }
     Ok(())
@@ -218,7 +221,8 @@ fn give_so(rt: &impl Abort, alloc: Global, rows: &[Row]) -> Result<(), Fail> {
 #[test]
 fn extremes(rt: HostRuntime) -> Result<(), Fail> {
     give_so(&rt, rt.alloc(), &DIVISIONS)?;
-    give_so(&rt, rt.alloc(), &OTHERS)
+    give_so(&rt, rt.alloc(), &OTHERS)?;
+    Ok(())
 }
 
 /// Reads into the 8 bytes behind it, writes what was read, and ends with its length.
@@ -239,48 +243,30 @@ static COPY: [u8; 60] = [
     0, 0, 0, 0, 0, 0, 0, 0,
 ];
 
-/// How it comes out, and what it has written.
-fn copied(
-    alloc: Global,
-    given: &[u8],
-    read_fails: &[u64],
-    write_fails: &[u64],
-) -> Result<(Result<Ran, RunFault>, MemSink), Fail> {
-    let mut input = MemSource::new(alloc, given, read_fails)?;
-    let mut out = MemSink::new(alloc, write_fails)?;
-    let mut err = MemSink::new(alloc, &[])?;
-    let ran = machine(alloc, &COPY)?.run(&mut input, &mut out, &mut err, 99);
-    Ok((ran, out))
-}
-
 #[test]
 fn copies_its_input(rt: HostRuntime) -> Result<(), Fail> {
-    let (ran, out) = copied(rt.alloc(), b"abc", &[], &[])?;
-    assert_eq!(rt;
-        ran,
-        Ok(Ran {
-            status: 3,
-            steps: 13
-        })
+    let alloc = rt.alloc();
+    let (short, is_written) = ran(alloc, &COPY, b"abc", &[], &[], b"abc")?;
+    assert!(rt;
+        is_written
+            && short
+                == Ok(Ran {
+                    status: 3,
+                    steps: 13
+                })
     );
-    assert_eq!(rt; out.bytes(), b"abc".as_slice());
-    let (ran, out) = copied(rt.alloc(), b"9876543210", &[], &[])?;
-    assert_eq!(rt;
-        ran,
-        Ok(Ran {
-            status: 8,
-            steps: 13
-        })
+    let (long, is_written) = ran(alloc, &COPY, b"9876543210", &[], &[], b"98765432")?;
+    assert!(rt;
+        is_written
+            && long
+                == Ok(Ran {
+                    status: 8,
+                    steps: 13
+                })
     );
-    assert_eq!(rt; out.bytes(), b"98765432".as_slice());
-    Ok(())
-}
-
-#[test]
-fn tells_refused_calls(rt: HostRuntime) -> Result<(), Fail> {
-    let (ran, _) = copied(rt.alloc(), b"abc", &[1], &[])?;
-    assert_eq!(rt; ran, Err(RunFault::ReadFault));
-    let (ran, _) = copied(rt.alloc(), b"abc", &[], &[0])?;
-    assert_eq!(rt; ran, Err(RunFault::WriteFault));
+    let (refused, _) = ran(alloc, &COPY, b"abc", &[1], &[], &[])?;
+    assert!(rt; refused == Err(RunFault::ReadFault));
+    let (refused, _) = ran(alloc, &COPY, b"abc", &[], &[0], &[])?;
+    assert!(rt; refused == Err(RunFault::WriteFault));
     Ok(())
 }
