@@ -4,3 +4,4 @@ pub mod Named
 pub mod Places
 pub mod Fitting
 pub mod Whole
+pub mod Together

@@ -15,15 +15,15 @@ use Rattle.md_rows.specs.Reading.{place_in, HasRows}
 use Rattle.md_rows.specs.Reading.{HasTable, RowsStandAtTheirPlaces}
 
 -- a row that was read, and those behind it
-record RowRead (o : Option Row) (r : Result (List Row) RowFault) (rows : List Row)
+pub record RowRead (o : Option Row) (r : Result (List Row) RowFault) (rows : List Row)
     : Type 0 where
-  cells : Row
-  more : List Row
-  row : o ≡ Some cells
-  rest : r ≡ Ok more
-  all : rows ≡ cells ∷ more
+  pub cells : Row
+  pub more : List Row
+  pub row : o ≡ Some cells
+  pub rest : r ≡ Ok more
+  pub all : rows ≡ cells ∷ more
 
-row_read : (schema : TableSchema) (row : ℕ) (o : Option Row) (r : Result (List Row) RowFault)
+pub row_read : (schema : TableSchema) (row : ℕ) (o : Option Row) (r : Result (List Row) RowFault)
     (rows : List Row) → schema.is_held ≡ true → with_row schema row o r ≡ Ok rows → RowRead o r rows
 row_read schema row None r rows held h = cc
 row_read schema row (Some cells) (Ok more) rows held h =
@@ -38,7 +38,7 @@ row_read schema row (Some cells) (Ok more) rows held h =
 row_read schema row (Some cells) (Err fault) rows held h = cc
 
 -- the rows of a table that is held
-rows_length : (bytes : StreamBytes) (layout : Layout) (schema : TableSchema) (start left row : ℕ)
+pub rows_length : (bytes : StreamBytes) (layout : Layout) (schema : TableSchema) (start left row : ℕ)
     (rows : List Row) → schema.is_held ≡ true → rows_from bytes layout schema start left row ≡ Ok rows
     → length rows ≡ left
 rows_length bytes layout schema start zero row rows held h = let none : [] ≡ rows = cc in sym (ap length none)
@@ -65,15 +65,15 @@ rows_are bytes layout schema start (suc left) row rows held h (suc k) n less sum
     (omega (arith, sum))
 
 -- a table that was read, and those behind it
-record TableRead (schema : TableSchema) (o : Result (List Row) RowFault) (r : Result (List Table) RowFault)
+pub record TableRead (schema : TableSchema) (o : Result (List Row) RowFault) (r : Result (List Table) RowFault)
     (held : List Table) : Type 0 where
-  rows : List Row
-  more : List Table
-  table : o ≡ Ok rows
-  rest : r ≡ Ok more
-  all : held ≡ kept schema.is_held (table_of schema.number rows) ++ more
+  pub rows : List Row
+  pub more : List Table
+  pub table : o ≡ Ok rows
+  pub rest : r ≡ Ok more
+  pub all : held ≡ kept schema.is_held (table_of schema.number rows) ++ more
 
-table_read : (schema : TableSchema) (o : Result (List Row) RowFault) (r : Result (List Table) RowFault)
+pub table_read : (schema : TableSchema) (o : Result (List Row) RowFault) (r : Result (List Table) RowFault)
     (held : List Table) → with_table schema o r ≡ Ok held → TableRead schema o r held
 table_read schema (Err fault) r held h = cc
 table_read schema (Ok rows) (Ok more) held h =
@@ -130,7 +130,7 @@ places bytes layout (first ∷ rest) start held (suc index) schema h is kept_is 
       subst (λ p. HasRows bytes layout schema p found.1) place found.3,
     )
 
-refused_is : (o : Option ℕ) (r : Result (List Table) RowFault) (held : List Table) → unless_refused o r ≡ Ok held
+pub refused_is : (o : Option ℕ) (r : Result (List Table) RowFault) (held : List Table) → unless_refused o r ≡ Ok held
     → r ≡ Ok held
 refused_is None r held h = h
 refused_is (Some table) r held h = cc

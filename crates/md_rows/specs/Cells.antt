@@ -1,6 +1,7 @@
 -- What stands in the columns of a row: ECMA-335 II.22 and II.24.2.6.
-use Rattle.std.specs.Prelude.{◌≡◌, ◌≢◌, ◌⊎◌, ℕ, ◌+◌, ◌-◌, ◌/◌, ◌%◌, ◌^◌, ◌≤◌, ◌==◌, ◌&&◌, true, nat_le, if◌then◌else◌}
-use Rattle.std.specs.Prelude.{List, [], ◌∷◌, ◌++◌, length, drop, slice_get, All, Contains, IsUtf8, Option, Some, None}
+use Rattle.std.specs.Prelude.{ℕ, ◌+◌, ◌-◌, ◌/◌, ◌%◌, ◌^◌, ◌==◌, ◌&&◌, nat_le, if◌then◌else◌, List, [], ◌∷◌, ◌++◌}
+use Rattle.std.specs.Prelude.{length}
+use Rattle.std.specs.Prelude.{drop, slice_get, Option, Some, None}
 use Rattle.std.specs.Option.{option_map, option_and_then}
 use Rattle.std.specs.Str.{is_utf8}
 use Rattle.md_heaps.specs.Heaps.{in_front_of_zero, blob as blob_in, guid as guid_in}
@@ -98,35 +99,3 @@ cells_at bytes layout [] at back = Some []
 cells_at bytes layout (column ∷ rest) at back =
     with_cell (cell_at bytes layout column at back)
     (cells_at bytes layout rest (at + column_size layout column) back)
-
--- ---- what a cell of a column is
-
--- a text without a zero byte
-pub record IsName (text : List ℕ) : Type 0 where
-  pub utf8 : IsUtf8 text
-  pub no_zero : All (λ byte. byte ≢ 0) text
-
--- a row of a table that a coded index names; of a table that is only skipped it is 0
-pub record IsRowOf (layout : Layout) (coding : Coding) (table row : ℕ) : Type 0 where
-  pub named : Contains (tag_tables coding) (Some table)
-  pub there : row ≤ rows_of layout table
-  pub skipped : is_skipped table ≡ true → row ≡ 0
-
--- A cell that a column may hold: a name has no zero byte, a GUID has 16 bytes or none, and a row lies in its table.
-abbrev pub IsCell : Layout → Column → Cell → Type 0
-IsCell layout U8 cell = (number : ℕ) × (cell ≡ Number number)
-IsCell layout U16 cell = (number : ℕ) × (cell ≡ Number number)
-IsCell layout U32 cell = (number : ℕ) × (cell ≡ Number number)
-IsCell layout StringIndex cell = (text : List ℕ) × (cell ≡ Name text) × IsName text
-IsCell layout GuidIndex cell = (bytes : List ℕ) × (cell ≡ Blob bytes) × ((length bytes ≡ 0) ⊎ (length bytes ≡ 16))
-IsCell layout BlobIndex cell = (bytes : List ℕ) × (cell ≡ Blob bytes)
-IsCell layout (RowIndex table) cell = (row : ℕ) × (cell ≡ Index row) × (row ≤ rows_of layout table)
-IsCell layout (RunIndex table) cell = (row : ℕ) × (cell ≡ Index row) × (row ≤ rows_of layout table + 1)
-IsCell layout (CodedIndex coding) cell =
-    (table row : ℕ) × (cell ≡ Coded table row) × IsRowOf layout coding table row
-
--- Each cell that stands in a column is one that the column may hold.
-abbrev pub CellsFitTheirColumns : Type 0
-CellsFitTheirColumns =
-    (bytes : StreamBytes) (layout : Layout) (column : Column) (at back : ℕ) (cell : Cell)
-    → cell_at bytes layout column at back ≡ Some cell → IsCell layout column cell

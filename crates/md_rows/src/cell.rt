@@ -97,8 +97,8 @@ fn index_cell(least: u64, most: u64, index: u32) -> Option<Cell>
     }
 }
 
-/// Whether a table is only skipped.
-fn is_skipped(table: u8) -> bool
+/// Whether a table is only skipped by its width (ECMA-335 II.22): its rows are not held.
+pub fn is_skipped(table: u8) -> bool
     ensures { result ≡ is_skipped_of table }
 {
     is_skipped_among(schemas(), table)

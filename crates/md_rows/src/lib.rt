@@ -14,7 +14,7 @@ mod streams;
 mod table;
 mod width;
 
-pub use cell::Cell;
+pub use cell::{Cell, is_skipped};
 pub use coding::Coding;
 pub use fault::RowFault;
 pub use laws::{cells_fit_their_columns, rows_at_their_places};
@@ -24,7 +24,7 @@ pub use row::Row;
 pub use schema::{Column, Schema, schemas};
 pub use streams::Streams;
 pub use table::Table;
-pub use width::Width;
+pub use width::{Width, width_of};
 
 #[cfg(test)]
 mod tests;

@@ -1,7 +1,8 @@
-ghost use Rattle.std.specs.Prelude.{◌≡◌, ◌≤◌, ◌∷◌, ◌++◌, [], map, length, Ok, IfOk, IfErr, OnOk};
+ghost use Rattle.std.specs.Prelude.{◌≡◌, ◌<◌, ◌≤◌, ◌∷◌, ◌++◌, [], true, map, length, All, Ok, IfOk, IfErr, OnOk};
 ghost use Rattle.md_rows.specs.Tables.{schema_of};
 ghost use Rattle.md_rows.specs.Cells.{bytes_of};
 ghost use Rattle.md_rows.specs.Reading.{kept, table_of, tables_from, reading, Refuses};
+ghost use Rattle.md_rows.specs.Fits.{fit_together};
 
 use crate::fault::RowFault;
 use crate::header::{first_refused, read_layout, valid};
@@ -21,8 +22,10 @@ use std::alloc::Global;
 /// or where a run begins in front of that of the row before.
 pub fn read_rows(alloc: Global, streams: &Streams<'_>) -> Result<List<Table>, RowFault>
     ensures read { IfOk result (λ tables. reading (bytes_of streams.now) ≡ Ok tables) }
+    ensures fit { IfOk result (λ tables. fit_together tables ≡ true) }
     ensures refused { IfErr result (Refuses (reading (bytes_of streams.now))) }
 {
+    are_bytes(streams.tables);
     let layout = match read_layout(alloc, streams.tables) {
         Ok(Some(layout)) => layout,
         Ok(None) => return Err(RowFault::BadTable(0, 0)),
@@ -31,6 +34,15 @@ pub fn read_rows(alloc: Global, streams: &Streams<'_>) -> Result<List<Table>, Ro
     match first_refused(valid(streams.tables)) {
         Some(table) => Err(RowFault::RefusedTable(table)),
         None => all_tables(alloc, streams, &layout, schemas()),
+    }
+}
+
+/// The numbers in a slice of bytes are those of bytes.
+fn are_bytes(bytes: &[u8])
+    ensures { All (λ byte. byte < 256) bytes.now }
+{
+    for byte in bytes {
+        let _byte = *byte;
     }
 }
 

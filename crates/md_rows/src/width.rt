@@ -78,7 +78,7 @@ fn has_many_rows(layout: &Layout, many: u32, tables: &[Option<u8>]) -> bool
 }
 
 /// How wide a column is (ECMA-335 II.24.2.6).
-pub(crate) fn width_of(layout: &Layout, column: Column) -> Width
+pub fn width_of(layout: &Layout, column: Column) -> Width
     ensures { result ≡ width_in layout.now column }
 {
     match column {

@@ -1,132 +1,243 @@
--- The least of numbers that is above one, in any order of them.
-use Rattle.std.proofs.Common.{◌≡◌, ℕ, zero, suc, ◌<◌, ◌≤◌, Bool, true, false, cond, min, nat_le, nat_lt}
-use Rattle.std.proofs.Common.{List, [], ◌∷◌}
-use Rattle.std.proofs.Common.{length, get_or, Option, Some, None, ap, refl, sym, subst, arith}
+-- The least address of a section that is above one, in any order of them.
+use Rattle.std.proofs.Common.{◌≡◌, ◌∙◌, ℕ, zero, suc, ◌+◌, ◌*◌, ◌^◌, ◌<◌, ◌≤◌, Bool, true, false, cond, min, nat_le}
+use Rattle.std.proofs.Common.{nat_lt}
+use Rattle.std.proofs.Common.{◌==◌, ◌&&◌, List, [], ◌∷◌, length, get_or, Option, Some, None, ap, refl, sym, subst}
+use Rattle.std.proofs.Common.{arith}
 use Rattle.std.specs.Prelude.{All, Contains, slice_get}
-use Rattle.std.specs.List.Sorted.{IsPermutation, IsNonDecreasing}
-use Rattle.std.proofs.lemmas.Bool.{ltb-true, ltb-false, leb-true, leb-false}
+use Rattle.std.specs.List.Sorted.{IsPermutation, IsNonDecreasingBy}
+use Rattle.std.proofs.lemmas.Bool.{false≢true, ltb-true, ltb-false, leb-true, leb-false, eqb-true, eqb-false, eq-eqb}
+use Rattle.std.proofs.lemmas.Bool.{and_parts}
+use Rattle.std.proofs.lemmas.List.{get_or_default}
 use Rattle.std.proofs.lemmas.List.Elements.{All-nil, All-cons, All-contains, All-weaker, All-from_get_or}
 use Rattle.std.proofs.lemmas.List.Elements.{Contains-get_or}
 use Rattle.std.proofs.lemmas.List.Sorted.{All-permutation, Contains-permutation}
-use Rattle.md_tables.specs.Finished.{least_above, least_with}
+use Rattle.std.proofs.lemmas.Option.{slice_get-get_or, slice_get_past}
+use Rattle.md_tables.specs.declared.data.Held.{Held}
+use Rattle.md_tables.specs.Finished.{next_address, least_with, rank_of, own_address}
 
--- what the least number above one is
-abbrev IsLeast : ℕ → List ℕ → Option ℕ → Type 0
-IsLeast n xs None = All (λ x. x ≤ n) xs
-IsLeast n xs (Some m) = Contains xs m × (n < m) × All (λ x. n < x → m ≤ x) xs
+-- an address of the section is among them
+record Has (s m : ℕ) (xs : List Held) : Type 0 where
+  one : Held
+  among : Contains xs one
+  section : one.section ≡ s
+  address : one.address ≡ m
+
+-- what the least address of a section above one is
+abbrev IsLeast : ℕ → ℕ → List Held → Option ℕ → Type 0
+IsLeast s n xs None = All (λ x. x.section ≡ s → x.address ≤ n) xs
+IsLeast s n xs (Some m) = Has s m xs × (n < m) × All (λ x. x.section ≡ s → n < x.address → m ≤ x.address) xs
 
 -- two such are one
-one_least : (n : ℕ) (xs : List ℕ) (a b : Option ℕ) → IsLeast n xs a → IsLeast n xs b → a ≡ b
-one_least n xs None None p q = refl
-one_least n xs None (Some m) p q =
-    let below : m ≤ n = All-contains (λ x. x ≤ n) xs m p q.0 in absurd (omega (arith, below, q.1))
-one_least n xs (Some m) None p q =
-    let below : m ≤ n = All-contains (λ x. x ≤ n) xs m q p.0 in absurd (omega (arith, below, p.1))
-one_least n xs (Some l) (Some m) p q =
-    let left : l ≤ m = All-contains (λ x. n < x → l ≤ x) xs m p.2 q.0 q.1 in
-    let right : m ≤ l = All-contains (λ x. n < x → m ≤ x) xs l q.2 p.0 p.1 in
-    let same : l ≡ m = omega (arith, left, right) in
+one_least : (s n : ℕ) (xs : List Held) (a b : Option ℕ) → IsLeast s n xs a → IsLeast s n xs b → a ≡ b
+one_least s n xs None None p q = refl
+one_least s n xs None (Some m) p q =
+    let below : q.0.one.address ≤ n =
+    All-contains (λ x. x.section ≡ s → x.address ≤ n) xs q.0.one p q.0.among q.0.section in
+    absurd (omega (arith, below, q.1, q.0.address))
+one_least s n xs (Some m) None p q =
+    let below : p.0.one.address ≤ n =
+    All-contains (λ x. x.section ≡ s → x.address ≤ n) xs p.0.one q p.0.among p.0.section in
+    absurd (omega (arith, below, p.1, p.0.address))
+one_least s n xs (Some l) (Some m) p q =
+    let over : n < q.0.one.address = omega (arith, q.1, q.0.address) in
+    let left : l ≤ q.0.one.address =
+    All-contains (λ x. x.section ≡ s → n < x.address → l ≤ x.address) xs q.0.one p.2 q.0.among q.0.section over in
+    let above : n < p.0.one.address = omega (arith, p.1, p.0.address) in
+    let right : m ≤ p.0.one.address =
+    All-contains (λ x. x.section ≡ s → n < x.address → m ≤ x.address) xs p.0.one q.2 p.0.among p.0.section above in
+    let same : l ≡ m = omega (arith, left, right, p.0.address, q.0.address) in
     ap Some same
 
 -- in another order
-permuted : (n : ℕ) (xs ys : List ℕ) (o : Option ℕ) → IsPermutation xs ys → IsLeast n xs o → IsLeast n ys o
-permuted n xs ys None p h = All-permutation (λ x. x ≤ n) xs ys p h
-permuted n xs ys (Some m) p h =
-    (Contains-permutation xs ys m p h.0, h.1, All-permutation (λ x. n < x → m ≤ x) xs ys p h.2)
-
--- ---- what the definition gives is such a number
-
-head_of : (x : ℕ) (rest : List ℕ) → Contains (x ∷ rest) x
-head_of x rest = (0, omega arith, refl)
-
-behind : (x m : ℕ) (rest : List ℕ) → Contains rest m → Contains (x ∷ rest) m
-behind x m rest h = (suc h.0, omega (arith, h.1), h.2)
-
-least_of_two : (b : Bool) (n x m : ℕ) (rest : List ℕ) → nat_le x m ≡ b → n < x → IsLeast n rest (Some m)
-    → IsLeast n (x ∷ rest) (Some (min x m))
-least_of_two true n x m rest e above h =
-    let low : x ≤ m = leb-true _ _ e in
-    let same : x ≡ min x m = omega (arith, low) in
-    let is : IsLeast n (x ∷ rest) (Some x) = (
-      head_of x rest,
-      above,
-      All-cons (λ y. n < y → x ≤ y) x rest (λ _. omega arith)
-          (All-weaker (λ y. n < y → m ≤ y) (λ y. n < y → x ≤ y)
-          (λ y more over. let far : m ≤ y = more over in omega (arith, far, low)) rest h.2),
-    ) in
-    subst (λ l. IsLeast n (x ∷ rest) (Some l)) same is
-least_of_two false n x m rest e above h =
-    let high : m < x = leb-false _ _ e in
-    let same : m ≡ min x m = omega (arith, high) in
-    let is : IsLeast n (x ∷ rest) (Some m) =
-    (behind x m rest h.0, h.1, All-cons (λ y. n < y → m ≤ y) x rest (λ _. omega (arith, high)) h.2) in
-    subst (λ l. IsLeast n (x ∷ rest) (Some l)) same is
-
-least_cons : (b : Bool) (n x : ℕ) (rest : List ℕ) (o : Option ℕ) → nat_lt n x ≡ b → IsLeast n rest o
-    → IsLeast n (x ∷ rest) (cond b (least_with x o) o)
-least_cons false n x rest None e h =
-    let below : x ≤ n = ltb-false _ _ e in All-cons (λ y. y ≤ n) x rest below h
-least_cons false n x rest (Some m) e h =
-    let below : x ≤ n = ltb-false _ _ e in
-    (behind x m rest h.0, h.1, All-cons (λ y. n < y → m ≤ y) x rest (λ above. absurd (omega (arith, below, above))) h.2)
-least_cons true n x rest None e h = (
-  head_of x rest,
-  ltb-true _ _ e,
-  All-cons (λ y. n < y → x ≤ y) x rest (λ above. omega arith)
-      (All-weaker (λ y. y ≤ n) (λ y. n < y → x ≤ y) (λ y below above. absurd (omega (arith, below, above))) rest h),
+permuted : (s n : ℕ) (xs ys : List Held) (o : Option ℕ) → IsPermutation xs ys → IsLeast s n xs o → IsLeast s n ys o
+permuted s n xs ys None p h = All-permutation (λ x. x.section ≡ s → x.address ≤ n) xs ys p h
+permuted s n xs ys (Some m) p h = (
+  record {
+    one = h.0.one;
+    among = Contains-permutation xs ys h.0.one p h.0.among;
+    section = h.0.section;
+    address = h.0.address;
+  },
+  h.1,
+  All-permutation (λ x. x.section ≡ s → n < x.address → m ≤ x.address) xs ys p h.2,
 )
-least_cons true n x rest (Some m) e h = least_of_two (nat_le x m) n x m rest refl (ltb-true _ _ e) h
 
-pub least_is : (n : ℕ) (xs : List ℕ) → IsLeast n xs (least_above n xs)
-least_is n [] = All-nil (λ x. x ≤ n)
-least_is n (x ∷ rest) = least_cons (nat_lt n x) n x rest (least_above n rest) refl (least_is n rest)
+-- ---- what the definition gives is such an address
 
--- in any order of the numbers it is the same
-pub least_permuted : (n : ℕ) (xs ys : List ℕ) → IsPermutation xs ys → least_above n ys ≡ least_above n xs
-least_permuted n xs ys p =
-    one_least n ys (least_above n ys) (least_above n xs) (least_is n ys)
-    (permuted n xs ys (least_above n xs) p (least_is n xs))
+head_of : (s : ℕ) (x : Held) (rest : List Held) → x.section ≡ s → Has s x.address (x ∷ rest)
+head_of s x rest e = record { one = x; among = (0, omega arith, refl); section = e; address = refl }
+
+behind : (s m : ℕ) (x : Held) (rest : List Held) → Has s m rest → Has s m (x ∷ rest)
+behind s m x rest h =
+    record {
+      one = h.one;
+      among = (suc h.among.0, omega (arith, h.among.1), h.among.2);
+      section = h.section;
+      address = h.address;
+    }
+
+least_of_two : (b : Bool) (s n m : ℕ) (x : Held) (rest : List Held) → nat_le x.address m ≡ b → x.section ≡ s
+    → n < x.address → IsLeast s n rest (Some m) → IsLeast s n (x ∷ rest) (Some (min x.address m))
+least_of_two true s n m x rest e here above h =
+    let low : x.address ≤ m = leb-true _ _ e in
+    let same : x.address ≡ min x.address m = omega (arith, low) in
+    let is : IsLeast s n (x ∷ rest) (Some x.address) = (
+      head_of s x rest here,
+      above,
+      All-cons (λ y. y.section ≡ s → n < y.address → x.address ≤ y.address) x rest (λ _ _. omega arith)
+          (All-weaker (λ y. y.section ≡ s → n < y.address → m ≤ y.address)
+          (λ y. y.section ≡ s → n < y.address → x.address ≤ y.address)
+          (λ y more own over. let far : m ≤ y.address = more own over in omega (arith, far, low)) rest h.2),
+    ) in
+    subst (λ l. IsLeast s n (x ∷ rest) (Some l)) same is
+least_of_two false s n m x rest e here above h =
+    let high : m < x.address = leb-false _ _ e in
+    let same : m ≡ min x.address m = omega (arith, high) in
+    let is : IsLeast s n (x ∷ rest) (Some m) = (
+      behind s m x rest h.0,
+      h.1,
+      All-cons (λ y. y.section ≡ s → n < y.address → m ≤ y.address) x rest (λ _ _. omega (arith, high)) h.2,
+    ) in
+    subst (λ l. IsLeast s n (x ∷ rest) (Some l)) same is
+
+-- one that isn't above, or lies in another section
+low_by : (same over : Bool) → (same && over) ≡ false → same ≡ true → over ≡ false
+low_by true over h e = h
+low_by false over h e = absurd (false≢true e)
+
+low : (s n : ℕ) (x : Held) → (x.section == s && nat_lt n x.address) ≡ false → x.section ≡ s → x.address ≤ n
+low s n x h e = ltb-false _ _ (low_by (x.section == s) (nat_lt n x.address) h (eq-eqb _ _ e))
+
+least_cons : (b : Bool) (s n : ℕ) (x : Held) (rest : List Held) (o : Option ℕ)
+    → (x.section == s && nat_lt n x.address) ≡ b → IsLeast s n rest o
+    → IsLeast s n (x ∷ rest) (cond b (least_with x.address o) o)
+least_cons false s n x rest None e h = All-cons (λ y. y.section ≡ s → y.address ≤ n) x rest (low s n x e) h
+least_cons false s n x rest (Some m) e h = (
+  behind s m x rest h.0,
+  h.1,
+  All-cons (λ y. y.section ≡ s → n < y.address → m ≤ y.address) x rest
+      (λ own above. let below : x.address ≤ n = low s n x e own in absurd (omega (arith, below, above))) h.2,
+)
+least_cons true s n x rest None e h =
+    let is = and_parts (x.section == s) (nat_lt n x.address) e in (
+      head_of s x rest (eqb-true _ _ is.0),
+      ltb-true _ _ is.1,
+      All-cons (λ y. y.section ≡ s → n < y.address → x.address ≤ y.address) x rest (λ _ _. omega arith)
+          (All-weaker (λ y. y.section ≡ s → y.address ≤ n)
+          (λ y. y.section ≡ s → n < y.address → x.address ≤ y.address)
+          (λ y below own above. let under : y.address ≤ n = below own in absurd (omega (arith, under, above))) rest h),
+    )
+least_cons true s n x rest (Some m) e h =
+    let is = and_parts (x.section == s) (nat_lt n x.address) e in
+    least_of_two (nat_le x.address m) s n m x rest refl (eqb-true _ _ is.0) (ltb-true _ _ is.1) h
+
+least_is : (s n : ℕ) (xs : List Held) → IsLeast s n xs (next_address s n xs)
+least_is s n [] = All-nil (λ x. x.section ≡ s → x.address ≤ n)
+least_is s n (x ∷ rest) =
+    least_cons (x.section == s && nat_lt n x.address) s n x rest (next_address s n rest) refl (least_is s n rest)
+
+-- in any order of the addresses it is the same
+pub least_permuted : (s n : ℕ) (xs ys : List Held) → IsPermutation xs ys → next_address s n ys ≡ next_address s n xs
+least_permuted s n xs ys p =
+    one_least s n ys (next_address s n ys) (next_address s n xs) (least_is s n ys)
+    (permuted s n xs ys (next_address s n xs) p (least_is s n xs))
 
 -- ---- in rising order it stands behind those that are no greater
 
-got : (xs : List ℕ) (k : ℕ) → k < length xs → slice_get xs k ≡ Some (get_or xs k 0)
-got [] k less = absurd (omega (arith, less))
-got (x ∷ xs) zero less = refl
-got (x ∷ xs) (suc k) less = got xs k (omega (arith, less))
+-- addresses of sections, each below 2^32, in rising order, parted at a place
+record Parted (s n k : ℕ) (ys : List Held) : Type 0 where
+  rising : IsNonDecreasingBy rank_of ys
+  few : All (λ x. x.address < 2 ^ 32) ys
+  below : (i : ℕ) (d : Held) → i < k → rank_of (get_or ys i d) ≤ s * 0x1_0000_0000 + n
+  above : (i : ℕ) (d : Held) → k ≤ i → i < length ys → s * 0x1_0000_0000 + n < rank_of (get_or ys i d)
 
-not_got : (xs : List ℕ) (k : ℕ) → length xs ≤ k → slice_get xs k ≡ None
-not_got [] k over = refl
-not_got (x ∷ xs) zero over = absurd (omega (arith, over))
-not_got (x ∷ xs) (suc k) over = not_got xs k (omega (arith, over))
+none : Held
+none = record { section = 0; address = 0 }
 
-rising_at-by : (b : Bool) (k i : ℕ) (ys : List ℕ) (n : ℕ) → nat_lt i k ≡ b → IsNonDecreasing ys
-    → ((i : ℕ) → i < k → get_or ys i 0 ≤ n) → i < length ys → n < get_or ys i 0 → get_or ys k 0 ≤ get_or ys i 0
-rising_at-by true k i ys n e rising low less over =
-    let here : get_or ys i 0 ≤ n = low i (ltb-true _ _ e) in absurd (omega (arith, here, over))
-rising_at-by false k i ys n e rising low less over = rising k i 0 (ltb-false _ _ e) less
+-- of one section, addresses stand as their ranks do
+no_more : (s n : ℕ) (x : Held) → rank_of x ≤ s * 0x1_0000_0000 + n → x.section ≡ s → x.address ≤ n
+no_more s n x h e =
+    let same : x.section * 0x1_0000_0000 ≡ s * 0x1_0000_0000 = ap (λ k. k * 0x1_0000_0000) e in omega (arith, h, same)
 
-rising_at : (k i : ℕ) (ys : List ℕ) (n : ℕ) → IsNonDecreasing ys → ((i : ℕ) → i < k → get_or ys i 0 ≤ n)
-    → i < length ys → n < get_or ys i 0 → get_or ys k 0 ≤ get_or ys i 0
-rising_at k i ys n rising low less over = rising_at-by (nat_lt i k) k i ys n refl rising low less over
+more : (s n : ℕ) (x : Held) → s * 0x1_0000_0000 + n < rank_of x → x.section ≡ s → n < x.address
+more s n x h e =
+    let same : x.section * 0x1_0000_0000 ≡ s * 0x1_0000_0000 = ap (λ k. k * 0x1_0000_0000) e in omega (arith, h, same)
 
-rising_by : (b : Bool) (n k : ℕ) (ys : List ℕ) → nat_lt k (length ys) ≡ b → IsNonDecreasing ys
-    → ((i : ℕ) → i < k → get_or ys i 0 ≤ n) → ((i : ℕ) → k ≤ i → i < length ys → n < get_or ys i 0)
-    → IsLeast n ys (slice_get ys k)
-rising_by true n k ys e rising low high =
-    let inside : k < length ys = ltb-true _ _ e in
-    let above : n < get_or ys k 0 = high k (omega arith) inside in
-    subst (IsLeast n ys) (sym (got ys k inside)) (
-      Contains-get_or ys k 0 inside,
-      above,
-      All-from_get_or (λ y. n < y → get_or ys k 0 ≤ y) ys 0 (λ i less over. rising_at k i ys n rising low less over),
+-- one between two of a section is of it
+between : (s n : ℕ) (y x : Held) → y.address < 2 ^ 32 → x.address < 2 ^ 32 → s * 0x1_0000_0000 + n < rank_of y
+    → rank_of y ≤ rank_of x → x.section ≡ s → y.section ≡ s
+between s n y x low high over under e = omega (arith, low, high, over, under, e)
+
+each : (b : Bool) (s n k i : ℕ) (ys : List Held) (d : Held) → nat_lt i k ≡ b → Parted s n k ys
+    → (k ≤ i → (get_or ys i d).section ≡ s → ⊥) → (get_or ys i d).section ≡ s → (get_or ys i d).address ≤ n
+each true s n k i ys d e p h own = no_more s n (get_or ys i d) (p.below i d (ltb-true _ _ e)) own
+each false s n k i ys d e p h own = absurd (h (ltb-false _ _ e) own)
+
+later : (b : Bool) (s n k i : ℕ) (ys : List Held) (d : Held) → nat_lt i k ≡ b → Parted s n k ys → i < length ys
+    → (get_or ys k d).section ≡ s → (get_or ys i d).section ≡ s → n < (get_or ys i d).address
+    → (get_or ys k d).address ≤ (get_or ys i d).address
+later true s n k i ys d e p inside here own over =
+    let low : (get_or ys i d).address ≤ n = no_more s n (get_or ys i d) (p.below i d (ltb-true _ _ e)) own in
+    absurd (omega (arith, low, over))
+later false s n k i ys d e p inside here own over =
+    let up : rank_of (get_or ys k d) ≤ rank_of (get_or ys i d) = p.rising k i d (ltb-false _ _ e) inside in
+    let same : (get_or ys k d).section * 0x1_0000_0000 ≡ (get_or ys i d).section * 0x1_0000_0000 =
+    ap (λ m. m * 0x1_0000_0000) (here ∙ sym own) in
+    omega (arith, up, same)
+
+found_by : (b : Bool) (s n k : ℕ) (ys : List Held) (d : Held) → ((get_or ys k d).section == s) ≡ b → k < length ys
+    → Parted s n k ys → IsLeast s n ys (cond b (Some (get_or ys k d).address) None)
+found_by true s n k ys d e inside p =
+    let y : Held = get_or ys k d in
+    let own : y.section ≡ s = eqb-true _ _ e in (
+      record { one = y; among = Contains-get_or ys k d inside; section = own; address = refl },
+      more s n y (p.above k d (omega arith) inside) own,
+      All-from_get_or (λ x. x.section ≡ s → n < x.address → y.address ≤ x.address) ys d
+          (λ i less. later (nat_lt i k) s n k i ys d refl p less own),
     )
-rising_by false n k ys e rising low high =
-    let outside : length ys ≤ k = ltb-false _ _ e in
-    subst (IsLeast n ys) (sym (not_got ys k outside))
-    (All-from_get_or (λ y. y ≤ n) ys 0 (λ i less. low i (omega (arith, less, outside))))
+found_by false s n k ys d e inside p =
+    let y : Held = get_or ys k d in
+    All-from_get_or (λ x. x.section ≡ s → x.address ≤ n) ys d
+    (λ i less. each (nat_lt i k) s n k i ys d refl p
+    (λ over own.
+    eqb-false _ _ e
+    (between s n y (get_or ys i d) (p.few k d inside) (p.few i d less) (p.above k d (omega arith) inside)
+    (p.rising k i d over less) own)))
 
-pub least_rising : (n k : ℕ) (ys : List ℕ) → IsNonDecreasing ys → ((i : ℕ) → i < k → get_or ys i 0 ≤ n)
-    → ((i : ℕ) → k ≤ i → i < length ys → n < get_or ys i 0) → slice_get ys k ≡ least_above n ys
-least_rising n k ys rising low high =
-    one_least n ys (slice_get ys k) (least_above n ys)
-    (rising_by (nat_lt k (length ys)) n k ys refl rising low high) (least_is n ys)
+rising_by : (b : Bool) (s n k : ℕ) (ys : List Held) → nat_lt k (length ys) ≡ b → Parted s n k ys
+    → IsLeast s n ys (own_address s (slice_get ys k))
+rising_by true s n k ys e p =
+    let inside : k < length ys = ltb-true _ _ e in
+    subst (λ o. IsLeast s n ys (own_address s o)) (sym (slice_get-get_or ys k none inside))
+    (found_by ((get_or ys k none).section == s) s n k ys none refl inside p)
+rising_by false s n k ys e p =
+    let outside : length ys ≤ k = ltb-false _ _ e in
+    subst (λ o. IsLeast s n ys (own_address s o)) (sym (slice_get_past ys k outside))
+    (All-from_get_or (λ x. x.section ≡ s → x.address ≤ n) ys none
+    (λ i less. no_more s n (get_or ys i none) (p.below i none (omega (arith, less, outside)))))
+
+pub least_rising : (s n k : ℕ) (ys : List Held) → IsNonDecreasingBy rank_of ys → All (λ x. x.address < 2 ^ 32) ys
+    → ((i : ℕ) (d : Held) → i < k → rank_of (get_or ys i d) ≤ s * 0x1_0000_0000 + n)
+    → ((i : ℕ) (d : Held) → k ≤ i → i < length ys → s * 0x1_0000_0000 + n < rank_of (get_or ys i d))
+    → own_address s (slice_get ys k) ≡ next_address s n ys
+least_rising s n k ys rising few below above =
+    one_least s n ys (own_address s (slice_get ys k)) (next_address s n ys)
+    (rising_by (nat_lt k (length ys)) s n k ys refl
+    (record { rising = rising; few = few; below = below; above = above })) (least_is s n ys)
+
+-- ---- one address more
+
+more_by : (b : Bool) (held : List Held) (i k : ℕ) (e d : Held) → nat_lt k i ≡ b → i < length held
+    → ((k : ℕ) (d : Held) → k < i → (get_or held k d).address < 2 ^ 32) → (get_or held i e).address < 2 ^ 32
+    → k < i + 1 → (get_or held k d).address < 2 ^ 32
+more_by true held i k e d is inside before here less = before k d (ltb-true _ _ is)
+more_by false held i k e d is inside before here less =
+    let over : i ≤ k = ltb-false _ _ is in
+    let same : i ≡ k = omega (arith, over, less) in
+    subst (λ (one : Held). one.address < 2 ^ 32)
+    (get_or_default held i e d inside ∙ ap (λ n. get_or held n d) same) here
+
+pub one_more : (held : List Held) (i : ℕ) (e : Held) → i < length held
+    → ((k : ℕ) (d : Held) → k < i → (get_or held k d).address < 2 ^ 32) → (get_or held i e).address < 2 ^ 32
+    → (k : ℕ) (d : Held) → k < i + 1 → (get_or held k d).address < 2 ^ 32
+one_more held i e inside before here k d less = more_by (nat_lt k i) held i k e d refl inside before here less

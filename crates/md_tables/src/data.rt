@@ -1,6 +1,8 @@
-ghost use Rattle.std.specs.Prelude.{◌≡◌, ◌==◌, map, take, find, slice_get, IfOk, option_copied};
-ghost use Rattle.std.specs.List.Sorted.{IsNonDecreasing, IsPermutation};
-ghost use Rattle.md_tables.specs.Finished.{addresses_in, least_above, up_to as up_to_in, data_at as data_in};
+ghost use Rattle.std.specs.Prelude.{◌≡◌, ◌<◌, ◌^◌, ◌==◌, All, take, find, slice_get, IfOk, option_copied};
+ghost use Rattle.std.specs.List.{filter_map};
+ghost use Rattle.std.specs.List.Sorted.{IsNonDecreasingBy, IsPermutation};
+ghost use Rattle.md_tables.specs.Finished.{held_of as held_in, rank_of, addresses_in, next_address, own_address};
+ghost use Rattle.md_tables.specs.Finished.{up_to as up_to_in, data_at as data_in};
 
 use md_rows::{Row, Table};
 use num_core::Memory;
@@ -17,47 +19,120 @@ fn field_table(tables: &[Table]) -> Option<&Table>
     tables.iter().find(|table| table.number == FIELD_RVA)
 }
 
-/// The addresses of rows.
-fn addresses_of(alloc: Global, rows: &[Row]) -> Result<Vec<u32>, Memory>
-    ensures { IfOk result (λ addresses. addresses.items ≡ map (λ row. row.address) rows.now) }
-{
-    let mut addresses = Vec::new(alloc);
-    for row in rows {
-        match addresses.push(row.address) {
-            Ok(()) => {}
-            Err(_) => return Err(Memory),
-        }
-    }
-    Ok(addresses)
+/// An address, and the number of the section that holds it.
+#[derive(Clone, Copy, Debug)]
+pub(crate) struct Held {
+    pub section: u16,
+    pub address: u32,
 }
 
-/// The addresses of the bytes of fields, in rising order.
-pub(crate) fn addresses(alloc: Global, tables: &[Table]) -> Result<Vec<u32>, Memory>
-    ensures rising { IfOk result (λ addresses. IsNonDecreasing addresses.items) }
-    ensures same { IfOk result (λ addresses. IsPermutation (addresses_in tables.now) addresses.items) }
+impl Held {
+    /// Where it stands in the order of sections, and in that of addresses of one section.
+    fn rank(self) -> u64
+        ensures { result ≡ rank_of self }
+    {
+        self.section as u64 * 0x1_0000_0000 + self.address as u64
+    }
+}
+
+/// An address with the section that holds it, if one does.
+fn held_at(image: &Image<'_>, address: u32) -> Option<Held>
+    ensures { result ≡ held_in image.now.sections address }
+{
+    match image.section_of(address) {
+        Some(section) => Some(Held { section, address }),
+        None => None,
+    }
+}
+
+/// The addresses of rows that sections hold.
+fn addresses_of(alloc: Global, image: &Image<'_>, rows: &[Row]) -> Result<Vec<Held>, Memory>
+    ensures { IfOk result (λ held. held.items
+        ≡ filter_map (λ row. held_in image.now.sections row.address) rows.now) }
+{
+    match rows
+        .iter()
+        .filter_map(|row| held_at(image, row.address))
+        .collect(alloc)
+    {
+        Ok(held) => Ok(held),
+        Err(_) => Err(Memory),
+    }
+}
+
+/// An address has 32 bits.
+fn is_address(one: Held)
+    ensures { one.address < 2 ^ 32 }
+{
+    let _address = one.address;
+}
+
+/// Addresses have 32 bits.
+fn are_addresses(held: &[Held])
+    ensures { All (λ one. one.address < 2 ^ 32) held.now }
+{
+    for one in held {
+        is_address(*one);
+    }
+}
+
+/// The addresses in rising order, those of one section together.
+fn in_order(mut held: Vec<Held>) -> Vec<Held>
+    ensures rising { IsNonDecreasingBy rank_of result.items }
+    ensures same { IsPermutation held.items result.items }
+{
+    held.sort_unstable_by_key(|one| one.rank());
+    held
+}
+
+/// The addresses of the bytes of fields that sections hold, those of one section together, in rising order.
+pub(crate) fn addresses(
+    alloc: Global,
+    image: &Image<'_>,
+    tables: &[Table],
+) -> Result<Vec<Held>, Memory>
+    ensures rising { IfOk result (λ held. IsNonDecreasingBy rank_of held.items) }
+    ensures few { IfOk result (λ held. All (λ one. one.address < 2 ^ 32) held.items) }
+    ensures same { IfOk result (λ held. IsPermutation (addresses_in image.now tables.now) held.items) }
 {
     let Some(table) = field_table(tables) else {
         return Ok(Vec::new(alloc));
     };
-    let mut addresses = addresses_of(alloc, table.rows.as_slice())?;
-    addresses.sort_unstable();
-    Ok(addresses)
+    match addresses_of(alloc, image, table.rows.as_slice()) {
+        Ok(held) => {
+            let held = in_order(held);
+            are_addresses(&held);
+            Ok(held)
+        }
+        Err(memory) => Err(memory),
+    }
 }
 
-/// The least of rising addresses that is above one.
-fn next_above(addresses: &[u32], address: u32) -> Option<u32>
-    requires { IsNonDecreasing addresses.now }
-    ensures { result ≡ least_above address addresses.now }
+/// The next greater address in the section of one.
+fn next_in(held: &[Held], own: Held) -> Option<u32>
+    requires rising { IsNonDecreasingBy rank_of held.now }
+    requires few { All (λ one. one.address < 2 ^ 32) held.now }
+    ensures { result ≡ next_address own.section own.address held.now }
 {
-    let place = addresses.partition_point(|other| *other <= address);
-    address_at(addresses, place)
+    let rank = own.rank();
+    let place = held.partition_point(|other| other.rank() <= rank);
+    address_at(held, place, own.section)
 }
 
-/// The address at a place of the list, if it is that long.
-fn address_at(addresses: &[u32], place: usize) -> Option<u32>
-    ensures { result ≡ slice_get addresses.now place }
+/// The address at a place of the list, if there is one and it lies in the section.
+fn address_at(held: &[Held], place: usize, section: u16) -> Option<u32>
+    ensures { result ≡ own_address section (slice_get held.now place) }
 {
-    addresses.get(place).copied()
+    match held.get(place) {
+        Some(other) => {
+            if other.section == section {
+                Some(other.address)
+            } else {
+                None
+            }
+        }
+        None => None,
+    }
 }
 
 /// The first of the bytes, so many or all.
@@ -81,13 +156,17 @@ fn up_to(bytes: &[u8], address: u32, next: Option<u32>) -> &[u8]
     }
 }
 
-/// The bytes of a field at an address, which end where those of the next begin.
-pub(crate) fn data_at<'a>(image: &'a Image<'_>, addresses: &[u32], address: u32) -> &'a [u8]
-    requires { IsNonDecreasing addresses.now }
-    ensures { result.now ≡ data_in image.now addresses.now address }
+/// The bytes of a field at an address, which end where those of the next in its section begin.
+pub(crate) fn data_at<'a>(image: &'a Image<'_>, held: &[Held], address: u32) -> &'a [u8]
+    requires rising { IsNonDecreasingBy rank_of held.now }
+    requires few { All (λ one. one.address < 2 ^ 32) held.now }
+    ensures { result.now ≡ data_in image.now held.now address }
 {
+    let Some(own) = held_at(image, address) else {
+        return b"";
+    };
     match image.at(address) {
-        Some(bytes) => up_to(bytes, address, next_above(addresses, address)),
+        Some(bytes) => up_to(bytes, address, next_in(held, own)),
         None => b"",
     }
 }

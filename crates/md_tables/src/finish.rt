@@ -1,10 +1,10 @@
-ghost use Rattle.std.specs.Prelude.{◌≡◌, ◌∷◌, Ok, IfOk, IfErr};
-ghost use Rattle.std.specs.List.Sorted.{IsNonDecreasing};
+ghost use Rattle.std.specs.Prelude.{◌≡◌, ◌<◌, ◌^◌, ◌∷◌, All, Ok, IfOk, IfErr};
+ghost use Rattle.std.specs.List.Sorted.{IsNonDecreasingBy};
 ghost use Rattle.md_tables.specs.Finished.{Refuses, method_row as method_row_in, field_row as field_row_in};
-ghost use Rattle.md_tables.specs.Finished.{finished_row, finished_rows, finished_table, finished_tables};
+ghost use Rattle.md_tables.specs.Finished.{rank_of, finished_row, finished_rows, finished_table, finished_tables};
 
 use crate::body::body_at;
-use crate::data::{FIELD_RVA, data_at};
+use crate::data::{FIELD_RVA, Held, data_at};
 use crate::fault::TableFault;
 use crate::module::{Table, TableRow};
 use md_rows::{Cell, Row};
@@ -14,7 +14,7 @@ use std::alloc::Global;
 use std::collections::VecDeque;
 
 /// The number of the table of methods.
-const METHOD_DEF: u8 = 0x06;
+pub(crate) const METHOD_DEF: u8 = 0x06;
 
 /// The row of a method, with its body.
 fn method_row(alloc: Global, image: &Image<'_>, row: Row) -> Result<TableRow, TableFault>
@@ -57,17 +57,13 @@ fn in_front(alloc: Global, first: Cell, rest: List<Cell>) -> Result<List<Cell>, 
 }
 
 /// The row of the bytes of a field.
-fn field_row(
-    alloc: Global,
-    image: &Image<'_>,
-    addresses: &[u32],
-    row: Row,
-) -> Result<TableRow, Memory>
-    requires { IsNonDecreasing addresses.now }
-    ensures { IfOk result (λ done. done ≡ field_row_in image.now addresses.now row) }
+fn field_row(alloc: Global, image: &Image<'_>, held: &[Held], row: Row) -> Result<TableRow, Memory>
+    requires rising { IsNonDecreasingBy rank_of held.now }
+    requires few { All (λ one. one.address < 2 ^ 32) held.now }
+    ensures { IfOk result (λ done. done ≡ field_row_in image.now held.now row) }
 {
     let Row { address, cells } = row;
-    match List::from_slice(alloc, data_at(image, addresses, address)) {
+    match List::from_slice(alloc, data_at(image, held, address)) {
         Ok(bytes) => match in_front(alloc, Cell::Blob(bytes), cells) {
             Ok(cells) => Ok(TableRow { cells, body: None }),
             Err(memory) => Err(memory),
@@ -80,18 +76,19 @@ fn field_row(
 fn finish_row(
     alloc: Global,
     image: &Image<'_>,
-    addresses: &[u32],
+    held: &[Held],
     number: u8,
     row: Row,
 ) -> Result<TableRow, TableFault>
-    requires { IsNonDecreasing addresses.now }
-    ensures read { IfOk result (λ done. finished_row image.now addresses.now number row ≡ Ok done) }
-    ensures refused { IfErr result (Refuses (finished_row image.now addresses.now number row)) }
+    requires rising { IsNonDecreasingBy rank_of held.now }
+    requires few { All (λ one. one.address < 2 ^ 32) held.now }
+    ensures read { IfOk result (λ done. finished_row image.now held.now number row ≡ Ok done) }
+    ensures refused { IfErr result (Refuses (finished_row image.now held.now number row)) }
 {
     if number == METHOD_DEF {
         method_row(alloc, image, row)
     } else if number == FIELD_RVA {
-        match field_row(alloc, image, addresses, row) {
+        match field_row(alloc, image, held, row) {
             Ok(done) => Ok(done),
             Err(_) => Err(TableFault::Memory),
         }
@@ -107,18 +104,19 @@ fn finish_row(
 fn finish_rows(
     alloc: Global,
     image: &Image<'_>,
-    addresses: &[u32],
+    held: &[Held],
     number: u8,
     rows: List<Row>,
 ) -> Result<List<TableRow>, TableFault>
-    requires { IsNonDecreasing addresses.now }
-    ensures read { IfOk result (λ done. finished_rows image.now addresses.now number rows ≡ Ok done) }
-    ensures refused { IfErr result (Refuses (finished_rows image.now addresses.now number rows)) }
+    requires rising { IsNonDecreasingBy rank_of held.now }
+    requires few { All (λ one. one.address < 2 ^ 32) held.now }
+    ensures read { IfOk result (λ done. finished_rows image.now held.now number rows ≡ Ok done) }
+    ensures refused { IfErr result (Refuses (finished_rows image.now held.now number rows)) }
 {
     let mut left = VecDeque::from_vec(rows.into_vec());
     let mut done = List::new(alloc);
     while let Some(row) = left.pop_front() {
-        match finish_row(alloc, image, addresses, number, row) {
+        match finish_row(alloc, image, held, number, row) {
             Ok(row) => match done.push(row) {
                 Ok(()) => {}
                 Err(_) => return Err(TableFault::Memory),
@@ -133,17 +131,18 @@ fn finish_rows(
 pub(crate) fn finish_tables(
     alloc: Global,
     image: &Image<'_>,
-    addresses: &[u32],
+    held: &[Held],
     tables: List<md_rows::Table>,
 ) -> Result<List<Table>, TableFault>
-    requires { IsNonDecreasing addresses.now }
-    ensures read { IfOk result (λ done. finished_tables image.now addresses.now tables ≡ Ok done) }
-    ensures refused { IfErr result (Refuses (finished_tables image.now addresses.now tables)) }
+    requires rising { IsNonDecreasingBy rank_of held.now }
+    requires few { All (λ one. one.address < 2 ^ 32) held.now }
+    ensures read { IfOk result (λ done. finished_tables image.now held.now tables ≡ Ok done) }
+    ensures refused { IfErr result (Refuses (finished_tables image.now held.now tables)) }
 {
     let mut left = VecDeque::from_vec(tables.into_vec());
     let mut done = List::new(alloc);
     while let Some(table) = left.pop_front() {
-        match finish_table(alloc, image, addresses, table) {
+        match finish_table(alloc, image, held, table) {
             Ok(table) => match done.push(table) {
                 Ok(()) => {}
                 Err(_) => return Err(TableFault::Memory),
@@ -158,15 +157,16 @@ pub(crate) fn finish_tables(
 fn finish_table(
     alloc: Global,
     image: &Image<'_>,
-    addresses: &[u32],
+    held: &[Held],
     table: md_rows::Table,
 ) -> Result<Table, TableFault>
-    requires { IsNonDecreasing addresses.now }
-    ensures read { IfOk result (λ done. finished_table image.now addresses.now table ≡ Ok done) }
-    ensures refused { IfErr result (Refuses (finished_table image.now addresses.now table)) }
+    requires rising { IsNonDecreasingBy rank_of held.now }
+    requires few { All (λ one. one.address < 2 ^ 32) held.now }
+    ensures read { IfOk result (λ done. finished_table image.now held.now table ≡ Ok done) }
+    ensures refused { IfErr result (Refuses (finished_table image.now held.now table)) }
 {
     let md_rows::Table { number, rows } = table;
-    match finish_rows(alloc, image, addresses, number, rows) {
+    match finish_rows(alloc, image, held, number, rows) {
         Ok(rows) => Ok(Table { number, rows }),
         Err(fault) => Err(fault),
     }

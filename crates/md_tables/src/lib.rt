@@ -5,11 +5,13 @@ mod body;
 mod data;
 mod fault;
 mod finish;
+mod fits;
 mod module;
 mod parts;
 mod read;
 
 pub use fault::TableFault;
+pub use fits::are_tables;
 pub use md_rows::Cell;
 pub use module::{Module, Table, TableRow};
 pub use read::read_tables;

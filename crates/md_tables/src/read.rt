@@ -24,7 +24,7 @@ pub fn read_tables(alloc: Global, image: &Image<'_>) -> Result<Module, TableFaul
         Ok(rows) => rows,
         Err(fault) => return Err(of_rows(fault)),
     };
-    let addresses = match addresses(alloc, rows.as_slice()) {
+    let addresses = match addresses(alloc, image, rows.as_slice()) {
         Ok(addresses) => addresses,
         Err(_) => return Err(TableFault::Memory),
     };
@@ -33,11 +33,7 @@ pub fn read_tables(alloc: Global, image: &Image<'_>) -> Result<Module, TableFaul
         Err(fault) => return Err(fault),
     };
     match List::from_slice(alloc, user(image)) {
-        Ok(user) => Ok(Module {
-            entry: entry(image),
-            user,
-            tables,
-        }),
+        Ok(user) => Ok(Module::new(entry(image), user, tables)),
         Err(_) => Err(TableFault::Memory),
     }
 }

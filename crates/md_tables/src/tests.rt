@@ -32,7 +32,7 @@ fn read(alloc: Global, bytes: &[u8]) -> Option<Result<Module, TableFault>> {
 
 /// How many bytes the body of a method has.
 fn body_size(module: &Module, row: usize) -> Option<usize> {
-    let rows = &module.tables.get(4)?.rows;
+    let rows = &module.tables().get(4)?.rows;
     match &rows.get(row)?.body {
         Some(body) => Some(body.len()),
         None => None,
@@ -41,7 +41,7 @@ fn body_size(module: &Module, row: usize) -> Option<usize> {
 
 /// How many bytes a field has, and the first of them.
 fn field(module: &Module, row: usize) -> Option<(usize, u8)> {
-    let rows = &module.tables.get(14)?.rows;
+    let rows = &module.tables().get(14)?.rows;
     let row = rows.get(row)?;
     match row.cells.get(0)? {
         Cell::Blob(bytes) => match bytes.get(0) {
@@ -75,9 +75,9 @@ fn changed(
 #[test]
 fn reads_a_module(rt: HostRuntime) {
     if let Some(Ok(module)) = read(rt.alloc(), IMAGE) {
-        assert_eq!(rt; module.entry, 0x0600_0001);
-        assert_eq!(rt; module.user.len(), 8);
-        assert_eq!(rt; module.tables.len(), 21);
+        assert_eq!(rt; module.entry(), 0x0600_0001);
+        assert_eq!(rt; module.user().len(), 8);
+        assert_eq!(rt; module.tables().len(), 21);
         assert_eq!(rt; body_size(&module, 0), Some(3));
         assert_eq!(rt; body_size(&module, 1), None);
         assert_eq!(rt; body_size(&module, 2), Some(2));

@@ -6,7 +6,8 @@ use Rattle.std.specs.Option.{option_map}
 use Rattle.std.proofs.lemmas.Bool.{leb-true, ltb-true}
 use Rattle.std.proofs.lemmas.List.Elements.{All-cons, All-nil}
 use Rattle.pe_image.specs.Conditions.{first_fault, fits}
-use Rattle.pe_image.specs.Sections.{section_at, sections_at, headers_fit, parts_fit, holds, place_in, place_of, IsWhole}
+use Rattle.pe_image.specs.Sections.{section_at, sections_at, headers_fit, parts_fit, holds, place_in, place_of}
+use Rattle.pe_image.specs.Sections.{IsWhole, section_of}
 use Rattle.pe_image.specs.Sections.{ArePartsWhole}
 use Rattle.pe_image.specs.declared.fault.PeFault.TheVariants.{Cut}
 use Rattle.pe_image.specs.declared.section.Section.{Section}
@@ -83,3 +84,49 @@ within_section size rva s h fits =
     let inside : rva < s.address + s.size = ltb-true _ _
     (right_true (nat_le s.address rva) (nat_lt rva (s.address + s.size)) h) in
     omega (arith, inside, fits)
+
+-- the number of the section that holds an address, behind so many that don't
+abbrev pub numbered : ℕ → Option ℕ → Option ℕ
+numbered index o = option_map (λ number. number + index) o
+
+numbered-zero : (o : Option ℕ) → o ≡ numbered 0 o
+numbered-zero None = refl
+numbered-zero (Some n) = ap Some (let e : n ≡ n + 0 = omega arith in e)
+
+-- behind none
+pub section_start : (file : List ℕ) (rva n m at at' : ℕ) → n ≡ m → at ≡ at'
+    → section_of (sections_at file n at) rva ≡ numbered 0 (section_of (sections_at file m at') rva)
+section_start file rva n m at at' e e' =
+    numbered-zero (section_of (sections_at file n at) rva)
+    ∙ ap (λ k. numbered 0 (section_of (sections_at file k at) rva)) e
+    ∙ ap (λ x. numbered 0 (section_of (sections_at file m x) rva)) e'
+
+numbered-next : (index : ℕ) (o : Option ℕ)
+    → numbered index (option_map (λ number. number + 1) o) ≡ numbered (index + 1) o
+numbered-next index None = refl
+numbered-next index (Some n) = ap Some (let e : n + 1 + index ≡ n + (index + 1) = omega arith in e)
+
+-- one that doesn't hold it
+pub section_on : (file : List ℕ) (rva n m at at' index : ℕ) → n ≡ suc m → at' ≡ at + 40
+    → holds rva (section_at file at) ≡ false
+    → numbered index (section_of (sections_at file n at) rva)
+    ≡ numbered (index + 1) (section_of (sections_at file m at') rva)
+section_on file rva n m at at' index e e' h =
+    ap (λ k. numbered index (section_of (sections_at file k at) rva)) e
+    ∙ ap (λ b. numbered index (cond b (Some 0)
+    (option_map (λ number. number + 1) (section_of (sections_at file m (at + 40)) rva)))) h
+    ∙ numbered-next index (section_of (sections_at file m (at + 40)) rva)
+    ∙ ap (λ x. numbered (index + 1) (section_of (sections_at file m x) rva)) (sym e')
+
+-- one that does
+pub section_found : (file : List ℕ) (rva n m at index : ℕ) → n ≡ suc m → holds rva (section_at file at) ≡ true
+    → numbered index (section_of (sections_at file n at) rva) ≡ Some index
+section_found file rva n m at index e h =
+    ap (λ k. numbered index (section_of (sections_at file k at) rva)) e
+    ∙ ap (λ b. numbered index (cond b (Some 0)
+    (option_map (λ number. number + 1) (section_of (sections_at file m (at + 40)) rva)))) h
+    ∙ ap Some (let z : 0 + index ≡ index = omega arith in z)
+
+pub section_none : (file : List ℕ) (rva n at index : ℕ) → n ≡ 0
+    → numbered index (section_of (sections_at file n at) rva) ≡ None
+section_none file rva n at index e = ap (λ k. numbered index (section_of (sections_at file k at) rva)) e

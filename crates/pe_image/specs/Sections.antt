@@ -53,3 +53,9 @@ place_of sections rva = option_map (place_in rva) (find (holds rva) sections)
 -- the bytes from an address to the end of its section's part of the file
 abbrev pub bytes_from : List ℕ → List Section → ℕ → Option (List ℕ)
 bytes_from file sections rva = option_map (λ place. take place.1 (drop place.0 file)) (place_of sections rva)
+
+-- The number of the section that holds an address, counted from 0; none where no section does. The first that holds it
+-- counts.
+abbrev pub section_of : List Section → ℕ → Option ℕ
+section_of [] rva = None
+section_of (s ∷ rest) rva = if holds rva s then Some 0 else option_map (λ number. number + 1) (section_of rest rva)

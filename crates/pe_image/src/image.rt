@@ -1,7 +1,7 @@
 ghost use Rattle.std.specs.Prelude.{◌≡◌, ◌+◌, ◌*◌, ◌≤◌, ◌<◌, ◌^◌, length, None, Some, IfOk, IfErr};
 ghost use Rattle.std.specs.Option.{option_map};
 ghost use Rattle.pe_image.specs.Conditions.{Answers, first_fault};
-ghost use Rattle.pe_image.specs.Sections.{sections_at, IsWhole, ArePartsWhole, bytes_from};
+ghost use Rattle.pe_image.specs.Sections.{sections_at, IsWhole, ArePartsWhole, bytes_from, section_of};
 ghost use Rattle.pe_image.specs.Pe.{conditions, parts_of, optional_place, section_count, sections_place};
 ghost use Rattle.pe_image.specs.Pe.{metadata as metadata_in, metadata_place, metadata_size};
 
@@ -137,5 +137,12 @@ impl<'a> Image<'a> {
             rva,
         )?;
         Some(part(self.file, place, size))
+    }
+
+    /// The number of the section that holds an address, counted from 0; none exactly where no section does.
+    pub fn section_of(&self, rva: u32) -> Option<u16>
+        ensures { result ≡ section_of self.now.sections rva }
+    {
+        section::section_of(self.file, self.section_count, self.section_place, rva)
     }
 }

@@ -13,6 +13,3 @@ mod stream;
 pub use fault::PeFault;
 pub use image::{Image, open_image};
 pub use section::Section;
-
-#[cfg(test)]
-mod tests;

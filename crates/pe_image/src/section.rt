@@ -2,6 +2,7 @@ ghost use Rattle.std.specs.Prelude.{◌≡◌, ◌+◌, ◌*◌, ◌≤◌, ◌<
 ghost use Rattle.pe_image.specs.Conditions.{Answers};
 ghost use Rattle.pe_image.specs.Sections.{section_at as section_in, sections_at, IsWhole, ArePartsWhole, headers_fit};
 ghost use Rattle.pe_image.specs.Sections.{parts_fit, holds as holds_in, place_of as place_in};
+ghost use Rattle.pe_image.specs.Sections.{section_of as section_of_in};
 
 use crate::bytes::{fits, word_at};
 use crate::fault::PeFault;
@@ -87,6 +88,20 @@ pub(crate) fn place_of(file: &[u8], count: u16, place: usize, rva: u32) -> Optio
                 section.pointer as usize + behind,
                 section.size as usize - behind,
             ));
+        }
+    }
+    None
+}
+
+/// The number of the section among so many that holds an address, counted from 0; none where none does.
+pub(crate) fn section_of(file: &[u8], count: u16, place: usize, rva: u32) -> Option<u16>
+    requires { IsWhole file.now count place }
+    ensures { result ≡ section_of_in (sections_at file.now count place) rva }
+{
+    for index in 0..count {
+        let at = place + SECTION_HEADER * index as usize;
+        if holds(section_at(file, at), rva) {
+            return Some(index);
         }
     }
     None

@@ -5,6 +5,7 @@ use Rattle.md_rows.specs.Tables.{schema_of}
 use Rattle.md_rows.specs.Widths.{first_refused}
 use Rattle.md_rows.specs.Cells.{bytes_of}
 use Rattle.md_rows.specs.Reading.{reading, tables_from, Refuses}
+use Rattle.md_rows.proofs.Together.{ok_together}
 use Rattle.md_rows.proofs.Whole.{reads, reads_refused, reads_cut}
 use Rattle.md_rows.proofs.read.read_rows.Goals as goal
 
@@ -28,6 +29,17 @@ returns-clause-read c =
     (c.first_refused.ensures ∙ ap first_refused c.valid.ensures) c.in-None.is in
     let P : Result (List Table) RowFault → Type 0 = λ m. IfOk c.all_tables.result (λ tables. m ≡ Ok tables) in
     subst P (sym same) c.all_tables.ensures.read
+
+pub returns-clause-fit : goal.returns-clause-fit
+returns-clause-fit c =
+    let same : reading (bytes_of c.args.streams.now) ≡ tables_from (bytes_of c.args.streams.now) c.in-Ok-Some.layout
+    c.in-Ok-Some.layout.place (map schema_of c.schemas.result.now) =
+    reads (bytes_of c.args.streams.now) c.in-Ok-Some.layout c.in-Ok-Some.field-0 c.first_refused.result
+    c.schemas.result.now c.schemas.ensures c.in-Ok-Some.ensures.value c.in-Ok-Some.field-0-is
+    (c.first_refused.ensures ∙ ap first_refused c.valid.ensures) c.in-None.is in
+    let P : Result (List Table) RowFault → Type 0 = λ m. IfOk c.all_tables.result (λ tables. m ≡ Ok tables) in
+    ok_together (bytes_of c.args.streams.now) c.all_tables.result c.are_bytes.ensures
+    (subst P (sym same) c.all_tables.ensures.read)
 
 pub returns-clause-refused : goal.returns-clause-refused
 returns-clause-refused c =
