@@ -1,0 +1,4 @@
+pub mod Coming
+pub mod Growing
+pub mod Rows
+pub mod Targets

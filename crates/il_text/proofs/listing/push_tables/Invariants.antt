@@ -1,0 +1,8 @@
+use Rattle.std.proofs.Common.{◌≡◌, ◌++◌, take}
+use Rattle.std.specs.List.{flat_map}
+use Rattle.il_text.specs.Words.{text_of}
+use Rattle.il_text.specs.Listing.{table_lines}
+use Rattle.il_text.proofs.listing.push_tables.Given as goal
+
+abbrev pub invariant-loop-table : goal.invariant-loop-table
+invariant-loop-table l = l.out ≡ l.fn.out ++ text_of (flat_map table_lines (take l.table-index l.tables))

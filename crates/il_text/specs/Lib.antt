@@ -1,0 +1,4 @@
+pub mod Words
+pub mod Mnemonics
+pub mod Instructions
+pub mod Listing
