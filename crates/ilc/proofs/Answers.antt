@@ -1,36 +1,65 @@
 -- What the statuses of a body and of a run mean, and what the fields of refusals are.
-use Rattle.std.proofs.Common.{◌≡◌, ◌∙◌, ◌⊎◌, inl, inr, ℕ, ◌≤◌, Bool, List, Option, Some, Result, Ok, Err, refl, ap, sym}
+use Rattle.std.proofs.Common.{◌≡◌, ◌∙◌, ◌⊎◌, inl, inr, ℕ, ◌≤◌, Bool, List, [], ◌∷◌, Option, Some, None, Result, Ok, Err}
+use Rattle.std.proofs.Common.{refl, ap, sym}
 use Rattle.std.proofs.Common.{subst, arith}
 use Rattle.std.specs.Option.{option_map}
 use Rattle.ilc_io.specs.Store.{stored}
+use Rattle.il_code.specs.Listing.{listed, first_bad_target}
+use Rattle.il_code.specs.Tiny.{tiny_body}
+use Rattle.pe_image.specs.Conditions.{first_fault}
+use Rattle.pe_image.specs.Pe.{conditions, parts_of}
+use Rattle.pe_image.specs.declared.fault.PeFault.{PeFault}
+use Rattle.pe_image.specs.declared.fault.PeFault.TheVariants.{NotPe as NoPe, NoCliHeader as NoHeader, Cut as IsCut}
+use Rattle.md_tables.specs.Finished.{module_of}
+use Rattle.md_tables.specs.declared.fault.TableFault.{TableFault}
+use Rattle.md_tables.specs.declared.fault.TableFault.TheVariants.{BadTable as BadRow, RefusedTable as RefusedRows}
+use Rattle.md_tables.specs.declared.fault.TableFault.TheVariants.{BadHeader as BadBody, Memory as NoMemory}
+use Rattle.il_text.specs.Listing.{listing_of}
 use Rattle.rv_step.specs.Machine.{MachineState}
-use Rattle.ilc.specs.Answer.{HasWritten, HasBare, HasProgram, NoneCounted, NoneOfStreams}
+use Rattle.elf_file.specs.Elf.{loaded}
+use Rattle.ilc_build.specs.Bare.{first_past}
+use Rattle.ilc_build.specs.Depths.{first_against, has_operation, is_verified_at}
+use Rattle.ilc_build.specs.Typing.{tiny_max_stack}
+use Rattle.ilc.specs.Answer.{HasWritten, HasBare, HasProgram, HasListed, HasAssembly, NoneCounted, NoneOfStreams}
 use Rattle.ilc.specs.Cause.{NotTaken, IsTaken, WriteOutcome, MachineOutcome, BodyOutcome, RunOutcome, CommandOutcome}
-use Rattle.ilc.specs.Cause.{Cause, body_limit, elf_limit, spent, trapped}
+use Rattle.ilc.specs.Cause.{DisOutcome, TextOutcome, Cause, file_limit, elf_limit, spent, trapped}
 use Rattle.ilc.specs.Line.{status_of}
-use Rattle.ilc.specs.Refusals.{IsFormed}
+use Rattle.ilc.specs.Printed.{Adds}
+use Rattle.ilc.specs.Refusals.{IsFormed, refusal_row}
 use Rattle.ilc.specs.Seen.{StoreSeen, StreamsSeen}
-use Rattle.ilc.specs.Stages.{Stage, Header, Opcodes, Targets, Flow, Operations, Verification, Load, body_stages}
-use Rattle.ilc.specs.Stages.{elf_stages, refusal_at}
+use Rattle.ilc.specs.Stages.{Stage, Header, Opcodes, Targets, Flow, Operations, Verification, Load, Image, Tables}
+use Rattle.ilc.specs.Stages.{body_stages, elf_stages, assembly_stages, Finding, finding, found_at, refused_at}
+use Rattle.ilc.specs.Stages.{image_finding, table_finding, refused_tables, Finds, IsFirst, refusal_of}
 use Rattle.ilc.specs.Words.{command_of}
 use Rattle.ilc.specs.declared.command.Command.{Command}
-use Rattle.ilc.specs.declared.command.Command.TheVariants.{Body, Run}
+use Rattle.ilc.specs.declared.command.Command.TheVariants.{Body, Run, Dis}
 use Rattle.ilc.specs.declared.outcome.Outcome.{Outcome}
 use Rattle.ilc.specs.declared.outcome.Outcome.TheVariants.{Usage, NoFile, TooLong, Refused, ReadFault, WriteFault}
 use Rattle.ilc.specs.declared.outcome.Outcome.TheVariants.{Ended, Written, Memory}
+use Rattle.ilc.specs.declared.refusal.Fault.{Fault}
+use Rattle.ilc.specs.declared.refusal.Fault.TheVariants.{NotPe, NoCliHeader, Cut, BadTable, RefusedTable, BadHeader}
+use Rattle.ilc.specs.declared.refusal.Fault.TheVariants.{BadOpcode, BadTarget, Unverified, Spent, OpcodeOutside, Trap}
+use Rattle.ilc.specs.declared.refusal.Fault.TheVariants.{BadElf}
 use Rattle.ilc.specs.declared.refusal.Refusal.{Refusal}
-use Rattle.ilc.proofs.OneOutcome.{body_done, run_done}
+use Rattle.ilc.proofs.OneOutcome.{body_done, run_done, dis_done}
+use Rattle.ilc.proofs.Shapes.{same_some}
 
 -- ---- a body that comes out with status 0 was written
 
-stage_fails : (stage : Stage) (file : List ℕ) (place : ℕ) → status_of (Refused (refusal_at stage file place)) ≡ 0 → ⊥
-stage_fails Header file place e = omega arith
-stage_fails Opcodes file place e = omega arith
-stage_fails Targets file place e = omega arith
-stage_fails Flow file place e = omega arith
-stage_fails Operations file place e = omega arith
-stage_fails Verification file place e = omega arith
-stage_fails Load file place e = omega arith
+fault_fails : (fault : Fault) → (refusal_row fault).status ≡ 0 → ⊥
+fault_fails NotPe e = omega arith
+fault_fails NoCliHeader e = omega arith
+fault_fails Cut e = omega arith
+fault_fails BadTable e = omega arith
+fault_fails RefusedTable e = omega arith
+fault_fails BadHeader e = omega arith
+fault_fails BadOpcode e = omega arith
+fault_fails BadTarget e = omega arith
+fault_fails Unverified e = omega arith
+fault_fails Spent e = omega arith
+fault_fails OpcodeOutside e = omega arith
+fault_fails Trap e = omega arith
+fault_fails BadElf e = omega arith
 
 not_taken_fails : (stages : List Stage) (name : List ℕ) (limit : ℕ) (before now : StoreSeen) (o : Outcome)
     → NotTaken stages name limit before now o → status_of o ≡ 0 → ⊥
@@ -38,7 +67,7 @@ not_taken_fails stages name limit before now (NoFile file) h e = omega arith
 not_taken_fails stages name limit before now (TooLong size) h e = omega arith
 not_taken_fails stages name limit before now ReadFault h e = omega arith
 not_taken_fails stages name limit before now (Refused refusal) h e =
-    stage_fails h.2.stage name h.2.place (ap (λ r. status_of (Refused r)) (sym h.2.told) ∙ e)
+    fault_fails refusal.fault e
 not_taken_fails stages name limit before now Memory h e = omega arith
 not_taken_fails stages name limit before now (Usage index) h e = h
 not_taken_fails stages name limit before now WriteFault h e = h
@@ -59,7 +88,7 @@ written_at_0 out elf before now (Ended status) h e = absurd h
 
 body_written : (file out : List ℕ) (before now : StoreSeen) (o : Outcome) → BodyOutcome file out before now o
     → status_of o ≡ 0 → HasWritten file out before.told now.told
-body_written file out before now o (inl h) e = absurd (not_taken_fails body_stages file body_limit before now o h.0 e)
+body_written file out before now o (inl h) e = absurd (not_taken_fails body_stages file file_limit before now o h.0 e)
 body_written file out before now o (inr h) e =
     record {
       bytes = h.built.bytes;
@@ -78,6 +107,43 @@ cause_written words before now streams streams' o file out cause command zero =
     let its_cause : CommandOutcome (Ok (Body file out)) before now streams streams' o = subst
     (λ c. CommandOutcome c before now streams streams' o) command cause in
     body_written file out before now o its_cause.0 zero
+
+-- ---- an assembly whose text was written
+
+text_at_0 : (text : List ℕ) (before now : StreamsSeen) (o : Outcome) → TextOutcome text before now o → status_of o ≡ 0
+    → Adds text before.outside.output now.outside.output
+text_at_0 text before now Written h e = h.1
+text_at_0 text before now WriteFault h e = absurd (omega arith)
+text_at_0 text before now (Usage index) h e = absurd h
+text_at_0 text before now (NoFile file) h e = absurd h
+text_at_0 text before now (TooLong size) h e = absurd h
+text_at_0 text before now (Refused refusal) h e = absurd h
+text_at_0 text before now ReadFault h e = absurd h
+text_at_0 text before now (Ended status) h e = absurd h
+text_at_0 text before now Memory h e = absurd h
+
+dis_listed : (file : List ℕ) (before now : StoreSeen) (streams streams' : StreamsSeen) (o : Outcome)
+    → DisOutcome file before now streams streams' o → status_of o ≡ 0
+    → HasListed file before.told streams.outside.output streams'.outside.output
+dis_listed file before now streams streams' o (inl h) e =
+    absurd (not_taken_fails assembly_stages file file_limit before now o h.0 e)
+dis_listed file before now streams streams' o (inr h) e =
+    record {
+      bytes = h.1.bytes;
+      read = h.1.read.content;
+      m = h.0;
+      assembles = h.1.assembles;
+      written = text_at_0 (listing_of h.0) streams streams' o h.2 e;
+    }
+
+pub cause_listed : (words : List (List ℕ)) (before now : StoreSeen) (streams streams' : StreamsSeen) (o : Outcome)
+    (file : List ℕ)
+    → Cause words before now streams streams' o → command_of words ≡ Ok (Dis file) → status_of o ≡ 0
+    → HasListed file before.told streams.outside.output streams'.outside.output
+cause_listed words before now streams streams' o file cause command zero =
+    let its_cause : CommandOutcome (Ok (Dis file)) before now streams streams' o = subst
+    (λ c. CommandOutcome c before now streams streams' o) command cause in
+    dis_listed file before now streams streams' o its_cause.0 zero
 
 -- ---- completeness
 
@@ -105,21 +171,85 @@ run_complete words before now streams streams' o elf limit count steps status ca
     done_or_memory o (Ended status)
     (run_done elf limit count steps status before now streams streams' o within has none calm its_cause.0)
 
+pub dis_complete : (words : List (List ℕ)) (before now : StoreSeen) (streams streams' : StreamsSeen) (o : Outcome)
+    (file : List ℕ)
+    → Cause words before now streams streams' o → command_of words ≡ Ok (Dis file) → HasAssembly file before.told
+    → NoneCounted before now → NoneOfStreams streams streams' → (status_of o ≡ 0) ⊎ (status_of o ≡ 75)
+dis_complete words before now streams streams' o file cause command has none calm =
+    let its_cause : CommandOutcome (Ok (Dis file)) before now streams streams' o = subst
+    (λ c. CommandOutcome c before now streams streams' o) command cause in
+    done_or_memory o Written (dis_done file before now streams streams' o has none calm its_cause.0)
+
 -- ---- the fields of refusals
 
-stage_formed : (stage : Stage) (file : List ℕ) (place : ℕ) → IsFormed (refusal_at stage file place)
-stage_formed Header file place = refl
-stage_formed Opcodes file place = refl
-stage_formed Targets file place = refl
-stage_formed Flow file place = refl
-stage_formed Operations file place = refl
-stage_formed Verification file place = refl
-stage_formed Load file place = refl
+-- what is found has as many numbers as are told of its fault
+abbrev pub IsToldOf : List ℕ → Finding → Type 0
+IsToldOf file found = IsFormed (refusal_of file found)
+
+found_formed : (file : List ℕ) (fault : Fault) (place : Option ℕ) (found : Finding)
+    → ((n : ℕ) → IsToldOf file (finding fault (n ∷ []))) → found_at fault place ≡ Some found → IsToldOf file found
+found_formed file fault None found formed e = absurd (cc)
+found_formed file fault (Some n) found formed e =
+    subst (IsToldOf file) (same_some (finding fault (n ∷ [])) found e) (formed n)
+
+refused_formed : {X : Type 0} (file : List ℕ) (fault : Fault) (r : Result X ℕ) (found : Finding)
+    → ((n : ℕ) → IsToldOf file (finding fault (n ∷ []))) → refused_at fault r ≡ Some found → IsToldOf file found
+refused_formed file fault (Ok x) found formed e = absurd (cc)
+refused_formed file fault (Err n) found formed e =
+    subst (IsToldOf file) (same_some (finding fault (n ∷ [])) found e) (formed n)
+
+image_formed : (file : List ℕ) (fault : Option PeFault) (found : Finding) → option_map image_finding fault ≡ Some found
+    → IsToldOf file found
+image_formed file None found e = absurd (cc)
+image_formed file (Some NoPe) found e =
+    subst (IsToldOf file) (same_some (image_finding NoPe) found e) refl
+image_formed file (Some NoHeader) found e =
+    subst (IsToldOf file) (same_some (image_finding NoHeader) found e) refl
+image_formed file (Some (IsCut place)) found e =
+    subst (IsToldOf file) (same_some (image_finding (IsCut place)) found e) refl
+
+table_formed : (file : List ℕ) (fault : TableFault) (found : Finding) → table_finding fault ≡ Some found
+    → IsToldOf file found
+table_formed file (BadRow table row) found e =
+    subst (IsToldOf file) (same_some (finding BadTable (table ∷ row ∷ [])) found e) refl
+table_formed file (RefusedRows table) found e =
+    subst (IsToldOf file) (same_some (finding RefusedTable (table ∷ [])) found e) refl
+table_formed file (BadBody address) found e =
+    subst (IsToldOf file) (same_some (finding BadHeader (address ∷ [])) found e) refl
+table_formed file NoMemory found e = absurd (cc)
+
+tables_formed : {X : Type 0} (file : List ℕ) (r : Result X TableFault) (found : Finding)
+    → refused_tables r ≡ Some found → IsToldOf file found
+tables_formed file (Ok x) found e = absurd (cc)
+tables_formed file (Err fault) found e = table_formed file fault found e
+
+stage_formed : (stage : Stage) (file bytes : List ℕ) (found : Finding) → Finds stage bytes (Some found)
+    → IsToldOf file found
+stage_formed Header file bytes found h = refused_formed file BadHeader (tiny_body bytes) found (λ n. refl) h
+stage_formed Opcodes file bytes found h = refused_formed file BadOpcode (listed h.0) found (λ n. refl) h.2
+stage_formed Targets file bytes found h =
+    found_formed file BadTarget (first_bad_target h.2.0) found (λ n. refl) h.2.2
+stage_formed Flow file bytes found h =
+    found_formed file BadTarget (first_past h.2.0 h.2.2.0) found (λ n. refl) h.2.2.2
+stage_formed Operations file bytes found h =
+    found_formed file OpcodeOutside (first_against has_operation h.2.0 h.2.2.0) found (λ n. refl) h.2.2.2
+stage_formed Verification file bytes found h =
+    found_formed file Unverified (first_against (is_verified_at tiny_max_stack) h.2.0 h.2.2.0) found (λ n. refl)
+    h.2.2.2
+stage_formed Load file bytes found h = refused_formed file BadElf (loaded bytes) found (λ n. refl) h
+stage_formed Image file bytes found h = image_formed file (first_fault (conditions bytes)) found h
+stage_formed Tables file bytes found h = tables_formed file (module_of (parts_of bytes)) found h
+
+first_formed : (stages : List Stage) (file bytes : List ℕ) (found : Finding) → IsFirst stages bytes found
+    → IsToldOf file found
+first_formed [] file bytes found h = absurd h
+first_formed (next ∷ stages) file bytes found (inl h) = stage_formed next file bytes found h
+first_formed (next ∷ stages) file bytes found (inr h) = first_formed stages file bytes found h.1
 
 not_taken_formed : (stages : List Stage) (name : List ℕ) (limit : ℕ) (before now : StoreSeen) (refusal : Refusal)
     → NotTaken stages name limit before now (Refused refusal) → IsFormed refusal
 not_taken_formed stages name limit before now refusal h =
-    subst IsFormed (sym h.2.told) (stage_formed h.2.stage name h.2.place)
+    subst IsFormed (sym h.2.told) (first_formed stages name h.0 h.2.found h.2.first)
 
 usage_formed : (index : ℕ) (refusal : Refusal) → (Refused refusal ≡ Usage index) ⊎ (Refused refusal ≡ Memory)
     → IsFormed refusal
@@ -129,7 +259,7 @@ usage_formed index refusal (inr e) = absurd (cc)
 body_formed : (file out : List ℕ) (before now : StoreSeen) (refusal : Refusal)
     → BodyOutcome file out before now (Refused refusal) → IsFormed refusal
 body_formed file out before now refusal (inl n) =
-    not_taken_formed body_stages file body_limit before now refusal n.0
+    not_taken_formed body_stages file file_limit before now refusal n.0
 body_formed file out before now refusal (inr n) = absurd n.writes
 
 machine_formed : (machine : MachineState) (limit : ℕ) (count : Bool) (streams streams' : StreamsSeen)
@@ -144,6 +274,12 @@ run_formed elf limit count before now streams streams' refusal (inl n) =
 run_formed elf limit count before now streams streams' refusal (inr n) =
     machine_formed n.0 limit count streams streams' refusal n.2
 
+dis_formed : (file : List ℕ) (before now : StoreSeen) (streams streams' : StreamsSeen) (refusal : Refusal)
+    → DisOutcome file before now streams streams' (Refused refusal) → IsFormed refusal
+dis_formed file before now streams streams' refusal (inl n) =
+    not_taken_formed assembly_stages file file_limit before now refusal n.0
+dis_formed file before now streams streams' refusal (inr n) = absurd n.2
+
 command_formed : (asked : Result Command ℕ) (before now : StoreSeen) (streams streams' : StreamsSeen)
     (refusal : Refusal)
     → CommandOutcome asked before now streams streams' (Refused refusal) → IsFormed refusal
@@ -152,6 +288,8 @@ command_formed (Ok (Body file out)) before now streams streams' refusal h =
     body_formed file out before now refusal h.0
 command_formed (Ok (Run elf limit count)) before now streams streams' refusal h =
     run_formed elf limit count before now streams streams' refusal h.0
+command_formed (Ok (Dis file)) before now streams streams' refusal h =
+    dis_formed file before now streams streams' refusal h.0
 
 pub formed_refusals : (words : List (List ℕ)) (before now : StoreSeen) (streams between : StreamsSeen)
     (refusal : Refusal)

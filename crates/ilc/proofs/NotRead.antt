@@ -1,11 +1,16 @@
 -- What comes of a file that wasn't read, or is refused.
 use Rattle.std.proofs.Common.{◌≡◌, ◌∙◌, ◌↔◌, ◌⊎◌, inl, inr, ℕ, ◌<◌, ◌≤◌, Bool, true, false, nat_le, List, [], ◌++◌}
-use Rattle.std.proofs.Common.{Option, Some, None, Result, Ok, Err, refl, ap, sym, subst, arith}
+use Rattle.std.proofs.Common.{◌∷◌, Option, Some, None, Result, Ok, Err, refl, ap, sym, subst, arith}
 use Rattle.std.specs.FinMap.{get}
 use Rattle.std.specs.Option.{option_map}
 use Rattle.std.proofs.lemmas.Bool.{leb-true, leb-false}
 use Rattle.std.proofs.lemmas.List.{append-nil}
 use Rattle.il_code.specs.Tiny.{tiny_body}
+use Rattle.pe_image.specs.Conditions.{first_fault}
+use Rattle.pe_image.specs.Pe.{conditions, parts_of}
+use Rattle.pe_image.specs.declared.fault.PeFault.{PeFault}
+use Rattle.md_tables.specs.Finished.{module_of, Refuses}
+use Rattle.md_tables.specs.declared.fault.TableFault.{TableFault}
 use Rattle.elf_file.specs.Elf.{loaded}
 use Rattle.ilc_build.specs.Refusals.{NotBare, NotBareCode, InstructionsGive}
 use Rattle.ilc_build.specs.declared.build.BuildFault.{BuildFault}
@@ -18,13 +23,18 @@ use Rattle.ilc_io.specs.declared.fault.FileFault.{FileFault}
 use Rattle.ilc_io.specs.declared.fault.FileFault.TheVariants.{Missing, Failed, TooLong as FileTooLong}
 use Rattle.ilc_io.specs.declared.fault.FileFault.TheVariants.{Memory as FileMemory}
 use Rattle.ilc.specs.Cause.{IsAsked, IsRead, IsTried, NotTaken}
-use Rattle.ilc.specs.Reading.{IsOrMemory, ReadGives, IsRefusedBy}
+use Rattle.ilc.specs.Reading.{IsOrMemory, ReadGives, IsRefusedBy, IsUnreadable, Tells, TellsTables}
+use Rattle.ilc.specs.Refusals.{refusal_row}
 use Rattle.ilc.specs.Seen.{StoreSeen}
-use Rattle.ilc.specs.Stages.{Stage, Header, Opcodes, Targets, Flow, Operations, Verification, Load, body_stages}
-use Rattle.ilc.specs.Stages.{elf_stages, refused_at, Finds, IsFirst, IsRefused, refusal_at, fault_at, body_method}
+use Rattle.ilc.specs.Stages.{Stage, body_stages, elf_stages, assembly_stages, Finding, finding, found_at, refused_at}
+use Rattle.ilc.specs.Stages.{image_finding, table_finding, refused_tables, IsFirst, IsRefused, refusal_of, fault_of}
+use Rattle.ilc.specs.Stages.{subject, body_method}
 use Rattle.ilc.specs.declared.outcome.Outcome.{Outcome}
 use Rattle.ilc.specs.declared.outcome.Outcome.TheVariants.{NoFile, TooLong, Refused, ReadFault, Memory}
+use Rattle.ilc.specs.declared.perform.AssemblyFault.TheVariants.{Image as ImageFault, Tables as TablesFault}
+use Rattle.ilc.specs.declared.refusal.Fault.{Fault}
 use Rattle.ilc.specs.declared.refusal.Fault.TheVariants.{BadHeader, BadOpcode, BadTarget, OpcodeOutside, Unverified}
+use Rattle.ilc.specs.declared.refusal.Fault.TheVariants.{BadElf}
 use Rattle.ilc.specs.declared.refusal.Refusal.{Refusal}
 use Rattle.ilc.proofs.Faults.{risen}
 
@@ -118,115 +128,156 @@ refused_or_memory stages name limit bytes before now outcome read (inr h) =
 
 -- ---- the first stage that has a fault
 
-pub told_at : (stages : List Stage) (file bytes : List ℕ) (stage : Stage) (place : ℕ) (outcome : Outcome)
-    → IsFirst stages bytes stage place → IsOrMemory (Refused (refusal_at stage file place)) outcome
+pub told_at : (stages : List Stage) (file bytes : List ℕ) (found : Finding) (outcome : Outcome)
+    → IsFirst stages bytes found → IsOrMemory (Refused (refusal_of file found)) outcome
     → (outcome ≡ Memory) ⊎ ((refusal : Refusal) × (outcome ≡ Refused refusal) × IsRefused stages file bytes refusal)
-told_at stages file bytes stage place outcome first (inl e) =
-    inr (refusal_at stage file place, e, record { stage = stage; place = place; first = first; told = refl })
-told_at stages file bytes stage place outcome first (inr e) = inl e
+told_at stages file bytes found outcome first (inl e) =
+    inr (refusal_of file found, e, record { found = found; first = first; told = refl })
+told_at stages file bytes found outcome first (inr e) = inl e
 
-pub first_header : (bytes : List ℕ) (place : ℕ) → tiny_body bytes ≡ Err place → IsFirst body_stages bytes Header place
-first_header bytes place e = inl (refl, ap refused_at e)
+pub first_header : (bytes : List ℕ) (place : ℕ) → tiny_body bytes ≡ Err place
+    → IsFirst body_stages bytes (finding BadHeader (place ∷ []))
+first_header bytes place e = inl (ap (refused_at BadHeader) e)
 
 pub first_opcode : (bytes : List ℕ) (place : ℕ) → NotBare bytes (BuildFault.BadOpcode place)
-    → IsFirst body_stages bytes Opcodes place
-first_opcode bytes place h = inr (ap refused_at h.1, inl (refl, (h.0, h.1, ap refused_at h.2)))
+    → IsFirst body_stages bytes (finding BadOpcode (place ∷ []))
+first_opcode bytes place h =
+    inr (ap (refused_at BadHeader) h.1, inl (h.0, h.1, ap (refused_at BadOpcode) h.2))
 
-pub first_target : (bytes file : List ℕ) (place : ℕ) (outcome : Outcome) → NotBare bytes (BuildFault.BadTarget place)
-    → IsOrMemory (Refused (refusal_at Targets file place)) outcome
-    → (outcome ≡ Memory) ⊎ ((refusal : Refusal) × (outcome ≡ Refused refusal) × IsRefused body_stages file bytes
-    refusal)
-first_target bytes file place outcome h gives = by h.0 h.1 h.2
+pub first_target : (bytes : List ℕ) (place : ℕ) → NotBare bytes (BuildFault.BadTarget place)
+    → IsFirst body_stages bytes (finding BadTarget (place ∷ []))
+first_target bytes place h = by h.0 h.1 h.2
   where
     by : (code : List ℕ) → tiny_body bytes ≡ Ok code → NotBareCode code (BuildFault.BadTarget place)
-        → (outcome ≡ Memory) ⊎ ((refusal : Refusal) × (outcome ≡ Refused refusal) × IsRefused body_stages file bytes
-        refusal)
+        → IsFirst body_stages bytes (finding BadTarget (place ∷ []))
     by code e (inl t) =
-        told_at body_stages file bytes Targets place outcome
-        (inr (ap refused_at e, inr ((code, e, ap refused_at t.1), inl (refl, (code, e, (t.0, t.1, t.2)))))) gives
-    by code e (inr g) =
-        told_at body_stages file bytes Flow place outcome
-        (inr (
-          ap refused_at e,
+        inr (
+          ap (refused_at BadHeader) e,
           inr (
-            (code, e, ap refused_at g.1),
-            inr
-                ((code, e, (g.0, g.1, g.2)), inl (refl, (code, e, (g.0, g.1, (g.3, g.4, g.5))))),
+            (code, e, ap (refused_at BadOpcode) t.1),
+            inl (code, e, (t.0, t.1, ap (found_at BadTarget) t.2)),
           ),
-        )) gives
+        )
+    by code e (inr g) =
+        inr (
+          ap (refused_at BadHeader) e,
+          inr (
+            (code, e, ap (refused_at BadOpcode) g.1),
+            inr (
+              (code, e, (g.0, g.1, ap (found_at BadTarget) g.2)),
+              inl (code, e, (g.0, g.1, (g.3, g.4, ap (found_at BadTarget) g.5))),
+            ),
+          ),
+        )
 
 pub first_operation : (bytes : List ℕ) (place : ℕ) → NotBare bytes (BuildFault.OpcodeOutside place)
-    → IsFirst body_stages bytes Operations place
+    → IsFirst body_stages bytes (finding OpcodeOutside (place ∷ []))
 first_operation bytes place h =
     let g : InstructionsGive h.0 (BuildFault.OpcodeOutside place) = h.2 in
     inr (
-      ap refused_at h.1,
+      ap (refused_at BadHeader) h.1,
       inr (
-        (h.0, h.1, ap refused_at g.1),
+        (h.0, h.1, ap (refused_at BadOpcode) g.1),
         inr (
-          (h.0, h.1, (g.0, g.1, g.2)),
-          inr ((h.0, h.1, (g.0, g.1, (g.3, g.4, g.5.0))), inl (refl, (h.0, h.1, (g.0, g.1, (g.3, g.4, g.5.1))))),
+          (h.0, h.1, (g.0, g.1, ap (found_at BadTarget) g.2)),
+          inr (
+            (h.0, h.1, (g.0, g.1, (g.3, g.4, ap (found_at BadTarget) g.5.0))),
+            inl (h.0, h.1, (g.0, g.1, (g.3, g.4, ap (found_at OpcodeOutside) g.5.1))),
+          ),
         ),
       ),
     )
 
 pub first_unverified : (bytes : List ℕ) (place : ℕ) → NotBare bytes (BuildFault.Unverified place)
-    → IsFirst body_stages bytes Verification place
+    → IsFirst body_stages bytes (finding Unverified (place ∷ []))
 first_unverified bytes place h =
     let g : InstructionsGive h.0 (BuildFault.Unverified place) = h.2 in
     inr (
-      ap refused_at h.1,
+      ap (refused_at BadHeader) h.1,
       inr (
-        (h.0, h.1, ap refused_at g.1),
+        (h.0, h.1, ap (refused_at BadOpcode) g.1),
         inr (
-          (h.0, h.1, (g.0, g.1, g.2)),
+          (h.0, h.1, (g.0, g.1, ap (found_at BadTarget) g.2)),
           inr (
-            (h.0, h.1, (g.0, g.1, (g.3, g.4, g.5.0))),
+            (h.0, h.1, (g.0, g.1, (g.3, g.4, ap (found_at BadTarget) g.5.0))),
             inr (
-              (h.0, h.1, (g.0, g.1, (g.3, g.4, g.5.1))),
-              inl (refl, (h.0, h.1, (g.0, g.1, (g.3, g.4, g.5.2)))),
+              (h.0, h.1, (g.0, g.1, (g.3, g.4, ap (found_at OpcodeOutside) g.5.1))),
+              inl (h.0, h.1, (g.0, g.1, (g.3, g.4, ap (found_at Unverified) g.5.2))),
             ),
           ),
         ),
       ),
     )
 
-pub first_load : (bytes : List ℕ) (place : ℕ) → loaded bytes ≡ Err place → IsFirst elf_stages bytes Load place
-first_load bytes place e = inl (refl, ap refused_at e)
+pub first_load : (bytes : List ℕ) (place : ℕ) → loaded bytes ≡ Err place
+    → IsFirst elf_stages bytes (finding BadElf (place ∷ []))
+first_load bytes place e = inl (ap (refused_at BadElf) e)
 
 -- ---- how the faults of a body are told
 
+-- a fault at a place of what has this text, which comes first
+told_first : (file bytes text : List ℕ) (fault : Fault) (place : ℕ) (outcome : Outcome)
+    → text ≡ subject (refusal_row fault).forms file → IsFirst body_stages bytes (finding fault (place ∷ []))
+    → IsOrMemory (Refused (fault_of fault text (place ∷ []))) outcome
+    → (outcome ≡ Memory) ⊎ ((refusal : Refusal) × (outcome ≡ Refused refusal) × IsRefused body_stages file bytes
+    refusal)
+told_first file bytes text fault place outcome e first gives =
+    told_at body_stages file bytes (finding fault (place ∷ [])) outcome first
+    (subst (λ t. IsOrMemory (Refused (fault_of fault t (place ∷ []))) outcome) e gives)
+
 pub refused_header : (file bytes text : List ℕ) (place : ℕ) (outcome : Outcome) → text ≡ file
-    → IsOrMemory (Refused (fault_at BadHeader text place)) outcome
+    → IsOrMemory (Refused (fault_of BadHeader text (place ∷ []))) outcome
     → IsRefusedBy bytes file (BuildFault.BadHeader place) outcome
 refused_header file bytes text place outcome e gives h =
-    told_at body_stages file bytes Header place outcome (first_header bytes place h)
-    (subst (λ t. IsOrMemory (Refused (fault_at BadHeader t place)) outcome) e gives)
+    told_first file bytes text BadHeader place outcome e (first_header bytes place h) gives
 
 pub refused_opcode : (file bytes text : List ℕ) (place : ℕ) (outcome : Outcome) → text ≡ body_method
-    → IsOrMemory (Refused (fault_at BadOpcode text place)) outcome
+    → IsOrMemory (Refused (fault_of BadOpcode text (place ∷ []))) outcome
     → IsRefusedBy bytes file (BuildFault.BadOpcode place) outcome
 refused_opcode file bytes text place outcome e gives h =
-    told_at body_stages file bytes Opcodes place outcome (first_opcode bytes place h)
-    (subst (λ t. IsOrMemory (Refused (fault_at BadOpcode t place)) outcome) e gives)
+    told_first file bytes text BadOpcode place outcome e (first_opcode bytes place h) gives
 
 pub refused_target : (file bytes text : List ℕ) (place : ℕ) (outcome : Outcome) → text ≡ body_method
-    → IsOrMemory (Refused (fault_at BadTarget text place)) outcome
+    → IsOrMemory (Refused (fault_of BadTarget text (place ∷ []))) outcome
     → IsRefusedBy bytes file (BuildFault.BadTarget place) outcome
 refused_target file bytes text place outcome e gives h =
-    first_target bytes file place outcome h
-    (subst (λ t. IsOrMemory (Refused (fault_at BadTarget t place)) outcome) e gives)
+    told_first file bytes text BadTarget place outcome e (first_target bytes place h) gives
 
 pub refused_operation : (file bytes text : List ℕ) (place : ℕ) (outcome : Outcome) → text ≡ body_method
-    → IsOrMemory (Refused (fault_at OpcodeOutside text place)) outcome
+    → IsOrMemory (Refused (fault_of OpcodeOutside text (place ∷ []))) outcome
     → IsRefusedBy bytes file (BuildFault.OpcodeOutside place) outcome
 refused_operation file bytes text place outcome e gives h =
-    told_at body_stages file bytes Operations place outcome (first_operation bytes place h)
-    (subst (λ t. IsOrMemory (Refused (fault_at OpcodeOutside t place)) outcome) e gives)
+    told_first file bytes text OpcodeOutside place outcome e (first_operation bytes place h) gives
 
 pub refused_unverified : (file bytes text : List ℕ) (place : ℕ) (outcome : Outcome) → text ≡ body_method
-    → IsOrMemory (Refused (fault_at Unverified text place)) outcome
+    → IsOrMemory (Refused (fault_of Unverified text (place ∷ []))) outcome
     → IsRefusedBy bytes file (BuildFault.Unverified place) outcome
 refused_unverified file bytes text place outcome e gives h =
-    told_at body_stages file bytes Verification place outcome (first_unverified bytes place h)
-    (subst (λ t. IsOrMemory (Refused (fault_at Unverified t place)) outcome) e gives)
+    told_first file bytes text Unverified place outcome e (first_unverified bytes place h) gives
+
+-- ---- how the faults of an assembly are told
+
+told_tables : (bytes file : List ℕ) (fault : TableFault) (found : Option Finding) (outcome : Outcome)
+    → table_finding fault ≡ found → first_fault (conditions bytes) ≡ None
+    → refused_tables (module_of (parts_of bytes)) ≡ found → Tells file found outcome
+    → (outcome ≡ Memory) ⊎ ((refusal : Refusal) × (outcome ≡ Refused refusal) × IsRefused assembly_stages file bytes
+    refusal)
+told_tables bytes file fault None outcome is image tables tells = inl tells
+told_tables bytes file fault (Some found) outcome is image tables tells =
+    told_at assembly_stages file bytes found outcome (inr (ap (option_map image_finding) image, inl tables)) tells
+
+pub unreadable_image : (bytes file : List ℕ) (fault : PeFault) (outcome : Outcome)
+    → IsOrMemory (Refused (refusal_of file (image_finding fault))) outcome
+    → IsUnreadable bytes file (ImageFault fault) outcome
+unreadable_image bytes file fault outcome tells first =
+    told_at assembly_stages file bytes (image_finding fault) outcome (inl (ap (option_map image_finding) first)) tells
+
+pub unreadable_tables : (bytes file : List ℕ) (fault : TableFault) (outcome : Outcome) → TellsTables file fault outcome
+    → IsUnreadable bytes file (TablesFault fault) outcome
+unreadable_tables bytes file fault outcome tells h = by h.1
+  where
+    by : Refuses (module_of (parts_of bytes)) fault
+        → (outcome ≡ Memory) ⊎ ((refusal : Refusal) × (outcome ≡ Refused refusal) × IsRefused assembly_stages file
+        bytes refusal)
+    by (inl e) = inl (subst (λ f. Tells file (table_finding f) outcome) e tells)
+    by (inr e) = told_tables bytes file fault (table_finding fault) outcome refl h.0 (ap refused_tables e) tells

@@ -11,18 +11,22 @@ use Rattle.rv_step.specs.Machine.{MachineState, machine_run}
 use Rattle.rv_step.specs.declared.trap.Trap.{Trap}
 use Rattle.elf_file.specs.Elf.{loaded}
 use Rattle.ilc_build.proofs.Refused.{small}
-use Rattle.ilc.specs.Answer.{HasWritten, HasBare, HasProgram, NoneCounted, NoneOfStreams, TellsAll, ComesTo, AreOne}
+use Rattle.ilc.specs.Answer.{HasWritten, HasBare, HasProgram, HasAssembly, NoneCounted, NoneOfStreams, TellsAll}
+use Rattle.ilc.specs.Answer.{ComesTo, AreOne}
 use Rattle.ilc.specs.Cause.{IsBuilt, IsLoaded, IsTaken, IsRead, NotTaken, BodyOutcome, RunOutcome, CommandOutcome}
-use Rattle.ilc.specs.Cause.{Cause, WriteOutcome, MachineOutcome, body_limit, elf_limit}
+use Rattle.md_tables.specs.Modules.{ModuleParts}
+use Rattle.il_text.specs.Listing.{listing_of}
+use Rattle.ilc.specs.Cause.{Cause, WriteOutcome, MachineOutcome, IsAssembly, DisOutcome, file_limit, elf_limit}
 use Rattle.ilc.specs.Line.{status_of}
 use Rattle.ilc.specs.Seen.{StoreSeen, StreamsSeen}
-use Rattle.ilc.specs.Stages.{Stage, body_stages, elf_stages}
+use Rattle.ilc.specs.Stages.{Stage, body_stages, elf_stages, assembly_stages}
 use Rattle.ilc.specs.Words.{command_of}
 use Rattle.ilc.specs.declared.command.Command.{Command}
-use Rattle.ilc.specs.declared.command.Command.TheVariants.{Body, Run as RunCommand}
+use Rattle.ilc.specs.declared.command.Command.TheVariants.{Body, Run as RunCommand, Dis}
 use Rattle.ilc.specs.declared.outcome.Outcome.{Outcome}
 use Rattle.ilc.specs.declared.outcome.Outcome.TheVariants.{Usage, NoFile, TooLong, Refused, ReadFault, WriteFault}
 use Rattle.ilc.specs.declared.outcome.Outcome.TheVariants.{Ended, Written, Memory}
+use Rattle.ilc.proofs.Shapes.{assembly_passes, text_written, same_some}
 use Rattle.ilc.proofs.Shapes.{Shape, AllPass, bare_passes, elf_passes, shape_of, no_shape, not_taken_one, is_memory}
 use Rattle.ilc.proofs.Shapes.{written_or_memory, OutcomeOf, one_of_run, still_ended, run_outcome}
 
@@ -50,26 +54,26 @@ taken_by file out before now o none h =
 
 -- where a body was built, no outcome of a file that isn't taken comes
 built_not_shape : (file out : List ℕ) (before now : StoreSeen) (store : Store) (o o' : Outcome)
-    → before.told ≡ Some store → IsTaken file out before now o → Shape body_stages file body_limit (get store file) o'
+    → before.told ≡ Some store → IsTaken file out before now o → Shape body_stages file file_limit (get store file) o'
     → ⊥
 built_not_shape file out before now store o o' told h shape =
-    no_shape body_stages file body_limit store h.built.bytes o' (h.built.read.content store told)
-    (read_small file body_limit h.built.bytes before h.between h.built.read)
+    no_shape body_stages file file_limit store h.built.bytes o' (h.built.read.content store told)
+    (read_small file file_limit h.built.bytes before h.between h.built.read)
     (built_passes file h.elf before h.between h.built) shape
 
 one_body : (file out : List ℕ) (before now now' : StoreSeen) (store : Store) (o o' : Outcome) → before.told ≡ Some store
     → NoneCounted before now → NoneCounted before now' → BodyOutcome file out before now o
     → BodyOutcome file out before now' o' → AreOne o o'
 one_body file out before now now' store o o' told none none' (inl h) (inl h') =
-    not_taken_one body_stages file body_limit store o o'
-    (shape_of body_stages file body_limit before now store o told none h.0)
-    (shape_of body_stages file body_limit before now' store o' told none' h'.0)
+    not_taken_one body_stages file file_limit store o o'
+    (shape_of body_stages file file_limit before now store o told none h.0)
+    (shape_of body_stages file file_limit before now' store o' told none' h'.0)
 one_body file out before now now' store o o' told none none' (inl h) (inr h') =
     inl (is_memory o (built_not_shape file out before now' store o' o told h')
-    (shape_of body_stages file body_limit before now store o told none h.0))
+    (shape_of body_stages file file_limit before now store o told none h.0))
 one_body file out before now now' store o o' told none none' (inr h) (inl h') =
     inr (inl (is_memory o' (built_not_shape file out before now store o o' told h)
-    (shape_of body_stages file body_limit before now' store o' told none' h'.0)))
+    (shape_of body_stages file file_limit before now' store o' told none' h'.0)))
 one_body file out before now now' store o o' told none none' (inr h) (inr h') =
     two o o' (taken_by file out before now o none h) (taken_by file out before now' o' none' h')
 
@@ -78,9 +82,9 @@ pub body_done : (file out : List ℕ) (before now : StoreSeen) (o : Outcome) →
 body_done file out before now o bare none (inr h) = taken_by file out before now o none h
 body_done file out before now o bare none (inl h) =
     let few : length bare.bytes ≤ 64 = small bare.bytes bare.reads.code bare.reads.header bare.reads.size in
-    inr (is_memory o (no_shape body_stages file body_limit bare.store bare.bytes o bare.content (omega arith)
+    inr (is_memory o (no_shape body_stages file file_limit bare.store bare.bytes o bare.content (omega arith)
     (bare_passes bare.bytes bare.body bare.table bare.reads))
-    (shape_of body_stages file body_limit before now bare.store o bare.tells none h.0))
+    (shape_of body_stages file file_limit before now bare.store o bare.tells none h.0))
 
 -- ---- runs
 
@@ -89,9 +93,6 @@ loaded_not_shape : (elf : List ℕ) (machine : MachineState) (before now : Store
 loaded_not_shape elf machine before now store o told h shape =
     no_shape elf_stages elf elf_limit store h.bytes o (h.read.content store told)
     (read_small elf elf_limit h.bytes before now h.read) (elf_passes h.bytes machine h.loads) shape
-
-same_some : {X : Type 0} (x y : X) → Some x ≡ Some y → x ≡ y
-same_some x y e = cc
 
 same_machine : (elf : List ℕ) (before now : StoreSeen) (store : Store) (bytes : List ℕ)
     (machine machine' : MachineState)
@@ -144,6 +145,42 @@ run_done elf limit count steps status before now streams s o within has none cal
     steps limit status has.streams within has.ends in
     inl (subst (λ r. OutcomeOf limit r o) at (subst (λ m. OutcomeOf limit (machine_run m has.input limit) o) same run))
 
+-- ---- assemblies
+
+assembly_not_shape : (file : List ℕ) (m : ModuleParts) (before now : StoreSeen) (store : Store) (o : Outcome)
+    → before.told ≡ Some store → IsAssembly file m before now
+    → Shape assembly_stages file file_limit (get store file) o → ⊥
+assembly_not_shape file m before now store o told h shape =
+    no_shape assembly_stages file file_limit store h.bytes o (h.read.content store told)
+    (read_small file file_limit h.bytes before now h.read) (assembly_passes h.bytes m h.assembles) shape
+
+one_dis : (file : List ℕ) (before now now' : StoreSeen) (streams s s' : StreamsSeen) (store : Store) (o o' : Outcome)
+    → before.told ≡ Some store → NoneCounted before now → NoneCounted before now' → NoneOfStreams streams s
+    → NoneOfStreams streams s' → DisOutcome file before now streams s o → DisOutcome file before now' streams s' o'
+    → AreOne o o'
+one_dis file before now now' streams s s' store o o' told none none' calm calm' (inl h) (inl h') =
+    not_taken_one assembly_stages file file_limit store o o'
+    (shape_of assembly_stages file file_limit before now store o told none h.0)
+    (shape_of assembly_stages file file_limit before now' store o' told none' h'.0)
+one_dis file before now now' streams s s' store o o' told none none' calm calm' (inl h) (inr h') =
+    inl (is_memory o (assembly_not_shape file h'.0 before now' store o told h'.1)
+    (shape_of assembly_stages file file_limit before now store o told none h.0))
+one_dis file before now now' streams s s' store o o' told none none' calm calm' (inr h) (inl h') =
+    inr (inl (is_memory o' (assembly_not_shape file h.0 before now store o' told h.1)
+    (shape_of assembly_stages file file_limit before now' store o' told none' h'.0)))
+one_dis file before now now' streams s s' store o o' told none none' calm calm' (inr h) (inr h') =
+    inr (inr (text_written (listing_of h.0) streams s o calm h.2
+    ∙ sym (text_written (listing_of h'.0) streams s' o' calm' h'.2)))
+
+pub dis_done : (file : List ℕ) (before now : StoreSeen) (streams s : StreamsSeen) (o : Outcome)
+    → HasAssembly file before.told → NoneCounted before now → NoneOfStreams streams s
+    → DisOutcome file before now streams s o → (o ≡ Written) ⊎ (o ≡ Memory)
+dis_done file before now streams s o has none calm (inl h) =
+    inr (is_memory o (no_shape assembly_stages file file_limit has.store has.bytes o has.content has.size
+    (assembly_passes has.bytes has.m has.assembles))
+    (shape_of assembly_stages file file_limit before now has.store o has.tells none h.0))
+dis_done file before now streams s o has none calm (inr h) = inl (text_written (listing_of h.0) streams s o calm h.2)
+
 -- ---- any words
 
 usage_one : (index : ℕ) (o o' : Outcome) → (o ≡ Usage index) ⊎ (o ≡ Memory) → (o' ≡ Usage index) ⊎ (o' ≡ Memory)
@@ -164,6 +201,8 @@ one_command (Ok (Body file out)) before now now' streams s s' store input o o' t
 one_command (Ok (RunCommand elf limit count)) before now now' streams s s' store input o o' told left none none' calm
     calm' h h' =
     one_run elf limit count before now now' streams s s' store input o o' told left none none' calm calm' h.0 h'.0
+one_command (Ok (Dis file)) before now now' streams s s' store input o o' told left none none' calm calm' h h' =
+    one_dis file before now now' streams s s' store o o' told none none' calm calm' h.0 h'.0
 
 pub one_outcome : (words : List (List ℕ)) (before : StoreSeen) (streams : StreamsSeen) (a b : Outcome)
     → TellsAll before.told streams.outside.rest → ComesTo words before streams a → ComesTo words before streams b

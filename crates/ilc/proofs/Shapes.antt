@@ -20,11 +20,15 @@ use Rattle.ilc_build.specs.Typing.{tiny_max_stack}
 use Rattle.ilc_build.specs.declared.depths.Known.{Known}
 use Rattle.ilc_build.proofs.Refused.{one_table}
 use Rattle.ilc.specs.Answer.{NoneCounted, NoneOfStreams}
-use Rattle.ilc.specs.Cause.{IsRead, NotTaken, MachineOutcome, WriteOutcome, SinkFails, spent, trapped}
+use Rattle.md_tables.specs.Modules.{ModuleParts}
+use Rattle.ilc.specs.Cause.{IsRead, NotTaken, MachineOutcome, WriteOutcome, SinkFails, spent, trapped, Assembles}
+use Rattle.ilc.specs.Cause.{TextOutcome}
 use Rattle.ilc.specs.Seen.{StoreSeen, StreamsSeen}
-use Rattle.ilc.specs.Stages.{Stage, Header, Opcodes, Targets, Flow, Operations, Verification, Load, body_stages}
-use Rattle.ilc.specs.Stages.{elf_stages, refused_at, OfCode, OfInstructions, OfTable, Finds, IsFirst, IsRefused}
-use Rattle.ilc.specs.Stages.{refusal_at}
+use Rattle.ilc.specs.Stages.{Stage, Header, Opcodes, Targets, Flow, Operations, Verification, Load, Image, Tables}
+use Rattle.ilc.specs.Stages.{body_stages, elf_stages, assembly_stages, Finding, found_at, refused_at, image_finding}
+use Rattle.ilc.specs.Stages.{refused_tables, OfCode, OfInstructions, OfTable, Finds, IsFirst, IsRefused, refusal_of}
+use Rattle.ilc.specs.declared.refusal.Fault.TheVariants.{BadHeader, BadOpcode, BadTarget, OpcodeOutside, Unverified}
+use Rattle.ilc.specs.declared.refusal.Fault.TheVariants.{BadElf}
 use Rattle.ilc.specs.declared.outcome.Outcome.{Outcome}
 use Rattle.ilc.specs.declared.outcome.Outcome.TheVariants.{Usage, NoFile, TooLong, Refused, ReadFault, WriteFault}
 use Rattle.ilc.specs.declared.outcome.Outcome.TheVariants.{Ended, Written, Memory}
@@ -35,26 +39,26 @@ use Rattle.ilc.specs.declared.refusal.Refusal.{Refusal}
 one_ok : {X : Type 0} (r : Result X ℕ) (x y : X) → r ≡ Ok x → r ≡ Ok y → x ≡ y
 one_ok r x y e f = let both : Ok x ≡ Ok y = sym e ∙ f in cc
 
-same_some : {X : Type 0} (x y : X) → Some x ≡ Some y → x ≡ y
+pub same_some : {X : Type 0} (x y : X) → Some x ≡ Some y → x ≡ y
 same_some x y e = cc
 
 no_some : {X : Type 0} (x : X) → Some x ≡ None → ⊥
 no_some x e = cc
 
-one_of_code : (f : List ℕ → Option ℕ) (bytes : List ℕ) (a b : Option ℕ) → OfCode bytes (λ code. f code ≡ a)
+one_of_code : {X : Type 0} (f : List ℕ → Option X) (bytes : List ℕ) (a b : Option X) → OfCode bytes (λ code. f code ≡ a)
     → OfCode bytes (λ code. f code ≡ b) → a ≡ b
 one_of_code f bytes a b h h' =
     let same : h.0 ≡ h'.0 = one_ok (tiny_body bytes) h.0 h'.0 h.1 h'.1 in
     sym h.2 ∙ (ap f same ∙ h'.2)
 
-one_of_instructions : (f : List Instr → Option ℕ) (bytes : List ℕ) (a b : Option ℕ)
+one_of_instructions : {X : Type 0} (f : List Instr → Option X) (bytes : List ℕ) (a b : Option X)
     → OfInstructions bytes (λ instrs. f instrs ≡ a) → OfInstructions bytes (λ instrs. f instrs ≡ b) → a ≡ b
 one_of_instructions f bytes a b h h' =
     let same : h.0 ≡ h'.0 = one_ok (tiny_body bytes) h.0 h'.0 h.1 h'.1 in
     let instrs : h.2.0 ≡ h'.2.0 = one_ok (listed h.0) h.2.0 h'.2.0 h.2.1 (ap listed same ∙ h'.2.1) in
     sym h.2.2 ∙ (ap f instrs ∙ h'.2.2)
 
-one_of_table : (f : List Instr → List Known → Option ℕ) (bytes : List ℕ) (a b : Option ℕ)
+one_of_table : {X : Type 0} (f : List Instr → List Known → Option X) (bytes : List ℕ) (a b : Option X)
     → OfTable bytes (λ instrs table. f instrs table ≡ a) → OfTable bytes (λ instrs table. f instrs table ≡ b) → a ≡ b
 one_of_table f bytes a b h h' =
     let same : h.0 ≡ h'.0 = one_ok (tiny_body bytes) h.0 h'.0 h.1 h'.1 in
@@ -63,31 +67,34 @@ one_of_table f bytes a b h h' =
     let table : h.2.2.0 ≡ h'.2.2.0 = one_table h.2.0 h.2.2.0 h'.2.2.0 h.2.2.1 least in
     sym h.2.2.2 ∙ (ap (f h.2.0) table ∙ (ap (λ l. f l h'.2.2.0) instrs ∙ h'.2.2.2))
 
-finds_one : (stage : Stage) (bytes : List ℕ) (a b : Option ℕ) → Finds stage bytes a → Finds stage bytes b → a ≡ b
+finds_one : (stage : Stage) (bytes : List ℕ) (a b : Option Finding) → Finds stage bytes a → Finds stage bytes b → a ≡ b
 finds_one Header bytes a b h h' = sym h ∙ h'
-finds_one Opcodes bytes a b h h' = one_of_code (λ code. refused_at (listed code)) bytes a b h h'
-finds_one Targets bytes a b h h' = one_of_instructions first_bad_target bytes a b h h'
-finds_one Flow bytes a b h h' = one_of_table first_past bytes a b h h'
-finds_one Operations bytes a b h h' = one_of_table (first_against has_operation) bytes a b h h'
-finds_one Verification bytes a b h h' = one_of_table (first_against (is_verified_at tiny_max_stack)) bytes a b h h'
+finds_one Opcodes bytes a b h h' = one_of_code (λ code. refused_at BadOpcode (listed code)) bytes a b h h'
+finds_one Targets bytes a b h h' =
+    one_of_instructions (λ instrs. found_at BadTarget (first_bad_target instrs)) bytes a b h h'
+finds_one Flow bytes a b h h' =
+    one_of_table (λ instrs table. found_at BadTarget (first_past instrs table)) bytes a b h h'
+finds_one Operations bytes a b h h' =
+    one_of_table (λ instrs table. found_at OpcodeOutside (first_against has_operation instrs table)) bytes a b h h'
+finds_one Verification bytes a b h h' =
+    one_of_table (λ instrs table. found_at Unverified (first_against (is_verified_at tiny_max_stack) instrs table))
+    bytes a b h h'
 finds_one Load bytes a b h h' = sym h ∙ h'
+finds_one Image bytes a b h h' = sym h ∙ h'
+finds_one Tables bytes a b h h' = sym h ∙ h'
 
-first_one : (stages : List Stage) (bytes : List ℕ) (s s' : Stage) (p p' : ℕ) → IsFirst stages bytes s p
-    → IsFirst stages bytes s' p' → (s ≡ s') × (p ≡ p')
-first_one [] bytes s s' p p' h h' = absurd h
-first_one (next ∷ stages) bytes s s' p p' (inl h) (inl h') =
-    (h.0 ∙ sym h'.0, same_some p p' (finds_one next bytes (Some p) (Some p') h.1 h'.1))
-first_one (next ∷ stages) bytes s s' p p' (inl h) (inr h') =
-    absurd (no_some p (finds_one next bytes (Some p) None h.1 h'.0))
-first_one (next ∷ stages) bytes s s' p p' (inr h) (inl h') =
-    absurd (no_some p' (finds_one next bytes (Some p') None h'.1 h.0))
-first_one (next ∷ stages) bytes s s' p p' (inr h) (inr h') = first_one stages bytes s s' p p' h.1 h'.1
+first_one : (stages : List Stage) (bytes : List ℕ) (f f' : Finding) → IsFirst stages bytes f → IsFirst stages bytes f'
+    → f ≡ f'
+first_one [] bytes f f' h h' = absurd h
+first_one (next ∷ stages) bytes f f' (inl h) (inl h') = same_some f f' (finds_one next bytes (Some f) (Some f') h h')
+first_one (next ∷ stages) bytes f f' (inl h) (inr h') = absurd (no_some f (finds_one next bytes (Some f) None h h'.0))
+first_one (next ∷ stages) bytes f f' (inr h) (inl h') = absurd (no_some f' (finds_one next bytes (Some f') None h' h.0))
+first_one (next ∷ stages) bytes f f' (inr h) (inr h') = first_one stages bytes f f' h.1 h'.1
 
 one_refusal : (stages : List Stage) (file bytes : List ℕ) (r r' : Refusal) → IsRefused stages file bytes r
     → IsRefused stages file bytes r' → r ≡ r'
 one_refusal stages file bytes r r' h h' =
-    let same = first_one stages bytes h.stage h'.stage h.place h'.place h.first h'.first in
-    h.told ∙ (ap (λ s. refusal_at s file h.place) same.0 ∙ (ap (refusal_at h'.stage file) same.1 ∙ sym h'.told))
+    h.told ∙ (ap (refusal_of file) (first_one stages bytes h.found h'.found h.first h'.first) ∙ sym h'.told)
 
 -- ---- bytes that pass
 
@@ -96,26 +103,30 @@ abbrev pub AllPass : List Stage → List ℕ → Type 0
 AllPass [] bytes = Unit {0}
 AllPass (next ∷ stages) bytes = Finds next bytes None × AllPass stages bytes
 
-pub not_refused : (stages : List Stage) (bytes : List ℕ) (s : Stage) (p : ℕ) → AllPass stages bytes
-    → IsFirst stages bytes s p → ⊥
-not_refused [] bytes s p pass h = h
-not_refused (next ∷ stages) bytes s p pass (inl h) = no_some p (finds_one next bytes (Some p) None h.1 pass.0)
-not_refused (next ∷ stages) bytes s p pass (inr h) = not_refused stages bytes s p pass.1 h.1
+pub not_refused : (stages : List Stage) (bytes : List ℕ) (f : Finding) → AllPass stages bytes → IsFirst stages bytes f
+    → ⊥
+not_refused [] bytes f pass h = h
+not_refused (next ∷ stages) bytes f pass (inl h) = no_some f (finds_one next bytes (Some f) None h pass.0)
+not_refused (next ∷ stages) bytes f pass (inr h) = not_refused stages bytes f pass.1 h.1
 
 pub bare_passes : (bytes : List ℕ) (body : Body) (table : List Known) → ReadsBare bytes body table
     → AllPass body_stages bytes
 bare_passes bytes body table reads =
-    let bare = reads.bare in (
-      ap refused_at reads.header,
+    let bare = reads.bare in
+    let targets = ap (found_at BadTarget) bare.targets in
+    let past = ap (found_at BadTarget) bare.past in
+    let operations = ap (found_at OpcodeOutside) bare.operations in
+    let verified = ap (found_at Unverified) bare.verified in (
+      ap (refused_at BadHeader) reads.header,
       (
-        (reads.code, reads.header, ap refused_at bare.instructions),
+        (reads.code, reads.header, ap (refused_at BadOpcode) bare.instructions),
         (
-          (reads.code, reads.header, (body.code, bare.instructions, bare.targets)),
+          (reads.code, reads.header, (body.code, bare.instructions, targets)),
           (
-            (reads.code, reads.header, (body.code, bare.instructions, (table, bare.least, bare.past))),
+            (reads.code, reads.header, (body.code, bare.instructions, (table, bare.least, past))),
             (
-              (reads.code, reads.header, (body.code, bare.instructions, (table, bare.least, bare.operations))),
-              ((reads.code, reads.header, (body.code, bare.instructions, (table, bare.least, bare.verified))), tt),
+              (reads.code, reads.header, (body.code, bare.instructions, (table, bare.least, operations))),
+              ((reads.code, reads.header, (body.code, bare.instructions, (table, bare.least, verified))), tt),
             ),
           ),
         ),
@@ -123,7 +134,10 @@ bare_passes bytes body table reads =
     )
 
 pub elf_passes : (bytes : List ℕ) (machine : MachineState) → loaded bytes ≡ Ok machine → AllPass elf_stages bytes
-elf_passes bytes machine e = (ap refused_at e, tt)
+elf_passes bytes machine e = (ap (refused_at BadElf) e, tt)
+
+pub assembly_passes : (bytes : List ℕ) (m : ModuleParts) → Assembles bytes m → AllPass assembly_stages bytes
+assembly_passes bytes m h = (ap (option_map image_finding) h.image, (ap refused_tables h.tables, tt))
 
 -- ---- a file that isn't taken
 
@@ -176,7 +190,7 @@ no_shape stages name limit store bytes o content small pass h = by (subst (λ f.
   where
     by : Shape stages name limit (Some bytes) o → ⊥
     by (inl h) = let a = h.0 in omega arith
-    by (inr h) = not_refused stages bytes h.1.2.stage h.1.2.place pass h.1.2.first
+    by (inr h) = not_refused stages bytes h.1.2.found pass h.1.2.first
 
 pub not_taken_one : (stages : List Stage) (name : List ℕ) (limit : ℕ) (store : Store) (o o' : Outcome)
     → (o ≡ Memory) ⊎ Shape stages name limit (get store name) o
@@ -281,3 +295,17 @@ run_outcome machine limit count before now input (NoFile file) told none h = abs
 run_outcome machine limit count before now input (TooLong size) told none h = absurd h
 run_outcome machine limit count before now input Written told none h = absurd h
 run_outcome machine limit count before now input Memory told none h = absurd h
+
+-- ---- a text that is written as output
+
+pub text_written : (text : List ℕ) (before now : StreamsSeen) (o : Outcome) → NoneOfStreams before now
+    → TextOutcome text before now o → o ≡ Written
+text_written text before now Written none h = refl
+text_written text before now WriteFault none h = absurd (none.1 h.2)
+text_written text before now (Usage index) none h = absurd h
+text_written text before now (NoFile file) none h = absurd h
+text_written text before now (TooLong size) none h = absurd h
+text_written text before now (Refused refusal) none h = absurd h
+text_written text before now ReadFault none h = absurd h
+text_written text before now (Ended status) none h = absurd h
+text_written text before now Memory none h = absurd h

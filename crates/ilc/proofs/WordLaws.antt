@@ -20,7 +20,7 @@ use Rattle.ilc.specs.declared.command.Command.{Command}
 use Rattle.ilc.specs.declared.grammar.Argument.{Argument}
 use Rattle.ilc.specs.declared.grammar.Argument.TheVariants.{Nothing, Output, Number}
 use Rattle.ilc.specs.declared.grammar.CommandName.{CommandName}
-use Rattle.ilc.specs.declared.grammar.CommandName.TheVariants.{Body, Run}
+use Rattle.ilc.specs.declared.grammar.CommandName.TheVariants.{Body, Run, Dis}
 use Rattle.ilc.specs.declared.grammar.CommandOption.{CommandOption}
 use Rattle.ilc.specs.declared.grammar.CommandOption.TheVariants.{Out, Steps, Count}
 use Rattle.ilc.specs.declared.grammar.Item.{Item}
@@ -174,12 +174,18 @@ one_name items =
     ap (nat_le 1) (count_more items (Name (codes "a")) refl) ∙ le-leb 1 (suc (count_by is_name_item items))
     (omega arith)
 
-ends_run : (items : List Item) (b : Bool) → nat_le 1 (count_by is_name_item items) ≡ b → Ends Run items
-ends_run items true e = ends_whole Run items (and_true (nat_le 1 (count_by is_name_item items)) true e refl)
-ends_run items false e =
-    ends_item Run items (Name (codes "a")) (refl, room_for_one (count_by is_name_item items) e)
-    (ends_whole Run (items ++ Name (codes "a") ∷ [])
-    (and_true (nat_le 1 (count_by is_name_item (items ++ Name (codes "a") ∷ []))) true (one_name items) refl))
+-- of a command that wants one name and no option
+ends_plain : (of : CommandName) → (command_row of).most ≡ Some 1
+    → ((items : List Item) → is_whole of items ≡ (nat_le 1 (count_by is_name_item items) && true)) → (items : List Item)
+    (b : Bool)
+    → nat_le 1 (count_by is_name_item items) ≡ b → Ends of items
+ends_plain of most plain items true e =
+    ends_whole of items (plain items ∙ and_true (nat_le 1 (count_by is_name_item items)) true e refl)
+ends_plain of most plain items false e =
+    let more : List Item = items ++ Name (codes "a") ∷ [] in
+    ends_item of items (Name (codes "a"))
+    (refl, ap (λ m. has_room m (count_by is_name_item items)) most ∙ room_for_one (count_by is_name_item items) e)
+    (ends_whole of more (plain more ∙ and_true (nat_le 1 (count_by is_name_item more)) true (one_name items) refl))
 
 ends_output : (items : List Item) → nat_le 1 (count_by is_name_item items) ≡ true → (b : Bool) → is_given Out items ≡ b
     → Ends Body items
@@ -203,7 +209,8 @@ ends_body items false e =
 
 ends : (of : CommandName) (items : List Item) → Ends of items
 ends Body items = ends_body items (nat_le 1 (count_by is_name_item items)) refl
-ends Run items = ends_run items (nat_le 1 (count_by is_name_item items)) refl
+ends Run items = ends_plain Run refl (λ all. refl) items (nat_le 1 (count_by is_name_item items)) refl
+ends Dis items = ends_plain Dis refl (λ all. refl) items (nat_le 1 (count_by is_name_item items)) refl
 
 completes : (of : CommandName) (at : ℕ) (items : List Item) (awaits : Option CommandOption) → IsReady of items awaits
     → (rest : List (List ℕ)) × (all : List Item) × (items_from of at (reading items awaits) rest ≡ Ok all)
@@ -297,6 +304,7 @@ tells of at (word ∷ words) items awaits index ready e =
 commands_are_named : (of : CommandName) → command_named (command_row of).name ≡ Some of
 commands_are_named Body = refl
 commands_are_named Run = refl
+commands_are_named Dis = refl
 
 -- there is a line
 a_line : (rest : List (List ℕ)) × (asked : Command) × AsksFor rest asked

@@ -16,7 +16,7 @@ use Rattle.ilc.specs.declared.command.Command.{Command}
 use Rattle.ilc.specs.declared.grammar.Argument.{Argument}
 use Rattle.ilc.specs.declared.grammar.Argument.TheVariants.{Nothing, Output, Number}
 use Rattle.ilc.specs.declared.grammar.CommandName.{CommandName}
-use Rattle.ilc.specs.declared.grammar.CommandName.TheVariants.{Body, Run}
+use Rattle.ilc.specs.declared.grammar.CommandName.TheVariants.{Body, Run, Dis}
 use Rattle.ilc.specs.declared.grammar.CommandOption.{CommandOption}
 use Rattle.ilc.specs.declared.grammar.CommandOption.TheVariants.{Out, Steps, Count}
 use Rattle.ilc.specs.declared.grammar.Item.{Item}
@@ -85,6 +85,7 @@ name_is_no_option of word name =
 commands_are_named : (of : CommandName) → command_named (command_row of).name ≡ Some of
 commands_are_named Body = refl
 commands_are_named Run = refl
+commands_are_named Dis = refl
 
 -- ---- what was read are the items of a line
 

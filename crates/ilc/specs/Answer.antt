@@ -7,13 +7,15 @@ use Rattle.ilc_io.specs.Count.{HasRisen}
 use Rattle.ilc_io.specs.Store.{Store, stored}
 use Rattle.il_code.specs.declared.body.Body.{Body}
 use Rattle.rv_step.specs.Machine.{MachineState, machine_run}
+use Rattle.md_tables.specs.Modules.{ModuleParts}
 use Rattle.elf_file.specs.Elf.{loaded}
 use Rattle.ilc_build.specs.Bare.{ReadsBare}
 use Rattle.ilc_build.specs.Implements.{Builds}
 use Rattle.ilc_build.specs.declared.depths.Known.{Known}
-use Rattle.ilc.specs.Cause.{Cause, elf_limit}
+use Rattle.il_text.specs.Listing.{listing_of}
+use Rattle.ilc.specs.Cause.{Cause, Assembles, file_limit, elf_limit}
 use Rattle.ilc.specs.Line.{status_of, line_of}
-use Rattle.ilc.specs.Printed.{Prints, BreaksOff}
+use Rattle.ilc.specs.Printed.{Prints, BreaksOff, Adds}
 use Rattle.ilc.specs.Seen.{StoreSeen, StreamsSeen}
 use Rattle.ilc.specs.declared.outcome.Outcome.{Outcome}
 use Rattle.ilc.specs.declared.outcome.Outcome.TheVariants.{Memory}
@@ -64,6 +66,24 @@ pub record HasProgram (elf : List ℕ) (steps status : ℕ) (told : Option Store
   pub left : rest ≡ Some input
   pub streams : Streams
   pub ends : machine_run machine input steps ≡ EndedRun status streams
+
+-- An assembly was read from the file FILE, and the output has its text behind what it had.
+pub record HasListed (file : List ℕ) (told : Option Store) (before now : Option (List ℕ)) : Type 0 where
+  pub bytes : List ℕ
+  pub read : (store : Store) → told ≡ Some store → get store file ≡ Some bytes
+  pub m : ModuleParts
+  pub assembles : Assembles bytes m
+  pub written : Adds (listing_of m) before now
+
+-- the store tells that a file has the bytes of an assembly
+pub record HasAssembly (file : List ℕ) (told : Option Store) : Type 0 where
+  pub store : Store
+  pub tells : told ≡ Some store
+  pub bytes : List ℕ
+  pub content : get store file ≡ Some bytes
+  pub size : length bytes ≤ file_limit
+  pub m : ModuleParts
+  pub assembles : Assembles bytes m
 
 -- no fault of the store was counted
 abbrev pub NoneCounted : StoreSeen → StoreSeen → Type 0

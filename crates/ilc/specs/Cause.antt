@@ -10,15 +10,20 @@ use Rattle.ilc_io.specs.declared.call.Call.TheVariants.{Size}
 use Rattle.rv_step.specs.Machine.{MachineState, request}
 use Rattle.rv_step.specs.Outcomes.{Asks, GoesOn, EndsAfter, TrapsWithin, ReadFailsWithin, WriteFailsWithin}
 use Rattle.rv_step.specs.declared.trap.Trap.{Trap}
+use Rattle.pe_image.specs.Conditions.{first_fault}
+use Rattle.pe_image.specs.Pe.{conditions, parts_of}
+use Rattle.md_tables.specs.Finished.{module_of}
+use Rattle.md_tables.specs.Modules.{ModuleParts}
+use Rattle.il_text.specs.Listing.{listing_of}
 use Rattle.elf_file.specs.Elf.{loaded}
 use Rattle.ilc_build.specs.Implements.{Builds}
 use Rattle.ilc.specs.Line.{count_line}
-use Rattle.ilc.specs.Printed.{Prints, BreaksOff}
+use Rattle.ilc.specs.Printed.{Prints, BreaksOff, Writes, WritesFront}
 use Rattle.ilc.specs.Seen.{StoreSeen, StreamsSeen}
-use Rattle.ilc.specs.Stages.{Stage, body_stages, elf_stages, IsRefused}
+use Rattle.ilc.specs.Stages.{Stage, body_stages, elf_stages, assembly_stages, IsRefused}
 use Rattle.ilc.specs.Words.{command_of}
 use Rattle.ilc.specs.declared.command.Command.{Command}
-use Rattle.ilc.specs.declared.command.Command.TheVariants.{Body, Run}
+use Rattle.ilc.specs.declared.command.Command.TheVariants.{Body, Run, Dis}
 use Rattle.ilc.specs.declared.outcome.Outcome.{Outcome}
 use Rattle.ilc.specs.declared.outcome.Outcome.TheVariants.{Usage, NoFile, TooLong, Refused, ReadFault, WriteFault}
 use Rattle.ilc.specs.declared.outcome.Outcome.TheVariants.{Ended, Written, Memory}
@@ -83,14 +88,14 @@ NotTaken stages name limit before now Written = ⊥
 
 -- ---- `body FILE -o OUT`
 
--- the most bytes that the file of a body may have
-abbrev pub body_limit : ℕ
-body_limit = 16777216
+-- the most bytes that a file other than an executable may have
+abbrev pub file_limit : ℕ
+file_limit = 16777216
 
 -- a bare body was read from a file, and the executable file `elf` does what it does
 pub record IsBuilt (file elf : List ℕ) (before now : StoreSeen) : Type 0 where
   pub bytes : List ℕ
-  pub read : IsRead file body_limit bytes before now
+  pub read : IsRead file file_limit bytes before now
   pub builds : Builds bytes elf
   pub same_files : SameFiles before now
   pub write_faults : now.write_faults ≡ before.write_faults
@@ -126,7 +131,7 @@ pub record IsTaken (file out : List ℕ) (before now : StoreSeen) (outcome : Out
 -- Either the body wasn't built, and no file has changed, or it was, and its file was written or not.
 abbrev pub BodyOutcome : List ℕ → List ℕ → StoreSeen → StoreSeen → Outcome → Type 0
 BodyOutcome file out before now outcome =
-    (NotTaken body_stages file body_limit before now outcome × SameFiles before now)
+    (NotTaken body_stages file file_limit before now outcome × SameFiles before now)
     ⊎ IsTaken file out before now outcome
 
 -- ---- `run ELF --steps N --count`
@@ -202,6 +207,37 @@ RunOutcome elf limit count before now streams streams' outcome =
     ⊎ ((machine : MachineState) × IsLoaded elf machine before now
     × MachineOutcome machine limit count streams streams' outcome)
 
+-- ---- `dis FILE`
+
+-- the module of an assembly in the bytes of a file
+pub record Assembles (bytes : List ℕ) (m : ModuleParts) : Type 0 where
+  pub image : first_fault (conditions bytes) ≡ None
+  pub tables : module_of (parts_of bytes) ≡ Ok m
+
+-- an assembly was read from a file
+pub record IsAssembly (file : List ℕ) (m : ModuleParts) (before now : StoreSeen) : Type 0 where
+  pub bytes : List ℕ
+  pub read : IsRead file file_limit bytes before now
+  pub assembles : Assembles bytes m
+
+-- When each outcome comes of a text that is to be written as output.
+abbrev pub TextOutcome : List ℕ → StreamsSeen → StreamsSeen → Outcome → Type 0
+TextOutcome text before now Written = Writes text before now
+TextOutcome text before now WriteFault = WritesFront text before now
+TextOutcome text before now (Usage index) = ⊥
+TextOutcome text before now (NoFile file) = ⊥
+TextOutcome text before now (TooLong size) = ⊥
+TextOutcome text before now (Refused refusal) = ⊥
+TextOutcome text before now ReadFault = ⊥
+TextOutcome text before now (Ended status) = ⊥
+TextOutcome text before now Memory = ⊥
+
+-- Either the file holds no assembly, or memory was wanting, and the streams are as before, or its text was written.
+abbrev pub DisOutcome : List ℕ → StoreSeen → StoreSeen → StreamsSeen → StreamsSeen → Outcome → Type 0
+DisOutcome file before now streams streams' outcome =
+    (NotTaken assembly_stages file file_limit before now outcome × (streams' ≡ streams))
+    ⊎ ((m : ModuleParts) × IsAssembly file m before now × TextOutcome (listing_of m) streams streams' outcome)
+
 -- ---- any command
 
 -- With a bad word nothing is done; else the command's own outcomes.
@@ -212,6 +248,8 @@ CommandOutcome (Ok (Body file out)) before now streams streams' outcome =
     BodyOutcome file out before now outcome × (streams' ≡ streams)
 CommandOutcome (Ok (Run elf steps count)) before now streams streams' outcome =
     RunOutcome elf steps count before now streams streams' outcome × SameFiles before now
+CommandOutcome (Ok (Dis file)) before now streams streams' outcome =
+    DisOutcome file before now streams streams' outcome × SameFiles before now
 
 -- the cause of an outcome
 abbrev pub Cause : List (List ℕ) → StoreSeen → StoreSeen → StreamsSeen → StreamsSeen → Outcome → Type 0

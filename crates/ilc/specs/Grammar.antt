@@ -9,7 +9,7 @@ use Rattle.std.specs.Str.Parse.{digits_value}
 use Rattle.ilc.specs.declared.grammar.Argument.{Argument}
 use Rattle.ilc.specs.declared.grammar.Argument.TheVariants.{Nothing, Output, Number}
 use Rattle.ilc.specs.declared.grammar.CommandName.{CommandName}
-use Rattle.ilc.specs.declared.grammar.CommandName.TheVariants.{Body, Run}
+use Rattle.ilc.specs.declared.grammar.CommandName.TheVariants.{Body, Run, Dis}
 use Rattle.ilc.specs.declared.grammar.CommandOption.{CommandOption}
 use Rattle.ilc.specs.declared.grammar.CommandOption.TheVariants.{Out, Steps, Count}
 use Rattle.ilc.specs.declared.grammar.Item.{Item}
@@ -51,9 +51,10 @@ command name least most options required =
 abbrev pub command_row : CommandName → CommandRow
 command_row Body = command (codes "body") 1 (Some 1) (Out ∷ []) (Out ∷ [])
 command_row Run = command (codes "run") 1 (Some 1) (Steps ∷ Count ∷ []) []
+command_row Dis = command (codes "dis") 1 (Some 1) [] []
 
 abbrev pub commands : List CommandName
-commands = Body ∷ Run ∷ []
+commands = Body ∷ Run ∷ Dis ∷ []
 
 -- ---- names and arguments
 

@@ -32,3 +32,21 @@ BreaksOff line before now =
     SameButError before now
     × AddsFront line before.outside.error now.outside.error
     × HasRisen before.error_faults now.error_faults
+
+-- nothing was read, and nothing was written but output
+pub record SameButOutput (before now : StreamsSeen) : Type 0 where
+  pub rest : now.outside.rest ≡ before.outside.rest
+  pub error : now.outside.error ≡ before.outside.error
+  pub input_faults : now.input_faults ≡ before.input_faults
+  pub error_faults : now.error_faults ≡ before.error_faults
+
+-- a text was written as output, and nothing else was read or written
+abbrev pub Writes : List ℕ → StreamsSeen → StreamsSeen → Type 0
+Writes text before now = SameButOutput before now × Adds text before.outside.output now.outside.output
+
+-- the front of a text was written as output, where a write failed and the sink counted it
+abbrev pub WritesFront : List ℕ → StreamsSeen → StreamsSeen → Type 0
+WritesFront text before now =
+    SameButOutput before now
+    × AddsFront text before.outside.output now.outside.output
+    × HasRisen before.output_faults now.output_faults

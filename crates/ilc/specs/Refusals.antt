@@ -1,6 +1,7 @@
 -- The refusals of input, as a table.
 use Rattle.std.specs.Prelude.{◌≡◌, ℕ, Bool, true, false, ◌&&◌, IsTrue, List, [], ◌∷◌, codes}
 use Rattle.ilc.specs.declared.refusal.Fault.{Fault}
+use Rattle.ilc.specs.declared.refusal.Fault.TheVariants.{NotPe, NoCliHeader, Cut, BadTable, RefusedTable}
 use Rattle.ilc.specs.declared.refusal.Fault.TheVariants.{BadHeader, BadOpcode, BadTarget, Unverified, Spent}
 use Rattle.ilc.specs.declared.refusal.Fault.TheVariants.{OpcodeOutside, Trap, BadElf}
 use Rattle.ilc.specs.declared.refusal.Field.{Field}
@@ -28,6 +29,11 @@ abbrev pub row : ℕ → List ℕ → ℕ → List Form → FaultRow
 row number name status forms = record { number = number; name = name; status = status; forms = forms }
 
 abbrev pub refusal_row : Fault → FaultRow
+refusal_row NotPe = row 1 (codes "NotPe") 65 (OfFile ∷ [])
+refusal_row NoCliHeader = row 2 (codes "NoCliHeader") 65 (OfFile ∷ [])
+refusal_row Cut = row 3 (codes "Cut") 65 (OfFile ∷ OfNumber ∷ [])
+refusal_row BadTable = row 4 (codes "BadTable") 65 (OfFile ∷ OfNumber ∷ OfNumber ∷ [])
+refusal_row RefusedTable = row 5 (codes "RefusedTable") 65 (OfFile ∷ OfNumber ∷ [])
 refusal_row BadHeader = row 9 (codes "BadHeader") 65 (OfFile ∷ OfNumber ∷ [])
 refusal_row BadOpcode = row 10 (codes "BadOpcode") 65 (OfItem ∷ OfNumber ∷ [])
 refusal_row BadTarget = row 11 (codes "BadTarget") 65 (OfItem ∷ OfNumber ∷ [])

@@ -5,10 +5,11 @@ use Rattle.ilc.specs.Grammar.{option_row, command_row, is_name, is_name_item, nu
 use Rattle.ilc.specs.Grammar.{fits, may_be_given, has_room, option_named, command_named, is_whole, IsLine}
 use Rattle.ilc.specs.declared.command.Command.{Command}
 use Rattle.ilc.specs.declared.command.Command.TheVariants.{Body as BodyCommand, Run as RunCommand}
+use Rattle.ilc.specs.declared.command.Command.TheVariants.{Dis as DisCommand}
 use Rattle.ilc.specs.declared.grammar.Argument.{Argument}
 use Rattle.ilc.specs.declared.grammar.Argument.TheVariants.{Nothing, Output, Number}
 use Rattle.ilc.specs.declared.grammar.CommandName.{CommandName}
-use Rattle.ilc.specs.declared.grammar.CommandName.TheVariants.{Body, Run}
+use Rattle.ilc.specs.declared.grammar.CommandName.TheVariants.{Body, Run, Dis}
 use Rattle.ilc.specs.declared.grammar.CommandOption.{CommandOption}
 use Rattle.ilc.specs.declared.grammar.CommandOption.TheVariants.{Out, Steps, Count}
 use Rattle.ilc.specs.declared.grammar.Item.{Item}
@@ -92,6 +93,7 @@ command_from Body items = BodyCommand (first_name items) (argument_of Out items)
 command_from Run items =
     RunCommand (first_name items) (unwrap_or (number_of most_steps (argument_of Steps items)) default_steps)
     (is_given Count items)
+command_from Dis items = DisCommand (first_name items)
 
 abbrev pub asked_for : CommandName → Result (List Item) ℕ → Result Command ℕ
 asked_for of (Ok items) = Ok (command_from of items)

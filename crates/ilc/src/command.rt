@@ -21,6 +21,8 @@ pub enum Command {
     /// `run ELF --steps N --count`: runs the executable file ELF on the machine, for at most N steps, and with
     /// `--count` prints how many it did to its end.
     Run { elf: Text, steps: u64, count: bool },
+    /// `dis FILE`: prints the text of the assembly in FILE.
+    Dis { file: Text },
 }
 
 /// The command that the words give.
@@ -57,6 +59,7 @@ fn command_from(alloc: Global, command: CommandName, items: &[Item]) -> Result<C
             steps: steps_of(items),
             count: is_given(items, CommandOption::Count),
         }),
+        CommandName::Dis => Ok(Command::Dis { file: name }),
     }
 }
 

@@ -16,6 +16,7 @@ use num_core::Text;
 pub enum CommandName {
     Body,
     Run,
+    Dis,
 }
 
 /// The options of the commands.
@@ -128,6 +129,13 @@ impl CommandName {
                 options: &[CommandOption::Steps, CommandOption::Count],
                 required: &[],
             },
+            CommandName::Dis => CommandRow {
+                name: b"dis",
+                least: 1,
+                most: Some(1),
+                options: &[],
+                required: &[],
+            },
         }
     }
 
@@ -193,7 +201,7 @@ impl Argument {
 pub(crate) fn command_named(word: &Text) -> Option<CommandName>
     ensures { result ≡ command_of_name word.now }
 {
-    [CommandName::Body, CommandName::Run]
+    [CommandName::Body, CommandName::Run, CommandName::Dis]
         .iter()
         .copied()
         .find(|command| command.is_written(word.bytes()))

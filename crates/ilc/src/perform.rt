@@ -1,25 +1,30 @@
-ghost use Rattle.std.specs.Prelude.{◌≡◌, ℕ, List, ◌<◌, ◌≤◌, length, IfOk, IfErr};
+ghost use Rattle.std.specs.Prelude.{◌≡◌, ℕ, List, ◌∷◌, [], ◌<◌, ◌≤◌, ◌^◌, length, Option, IfOk, IfErr};
 ghost use Rattle.ilc.specs.Seen.{store_seen, streams_seen};
 ghost use Rattle.ilc.specs.Cause.{NotTaken, IsRead, IsBuilt, WriteOutcome, BodyOutcome, IsLoaded, MachineOutcome};
-ghost use Rattle.ilc.specs.Cause.{Cause};
-ghost use Rattle.ilc.specs.Stages.{Stage, body_stages, elf_stages, fault_at, body_method as body_method_text};
-ghost use Rattle.ilc.specs.Reading.{IsRefusedBy, IsOrMemory, ReadGives};
+ghost use Rattle.ilc.specs.Cause.{Cause, Assembles, IsAssembly, DisOutcome, TextOutcome};
+ghost use Rattle.ilc.specs.Stages.{Stage, body_stages, elf_stages, assembly_stages, fault_of, fields_of};
+ghost use Rattle.ilc.specs.Stages.{refusal_of, image_finding};
+ghost use Rattle.ilc.specs.Stages.{body_method as body_method_text};
+ghost use Rattle.ilc.specs.Reading.{IsRefusedBy, IsNoAssembly, IsUnreadable, TellsTables, IsOrMemory, ReadGives};
 ghost use Rattle.ilc.specs.declared.outcome.Outcome.TheVariants.{Refused};
 
 use crate::command::{Command, parse_command};
 use crate::outcome::Outcome;
 use crate::reading::{WordsFault, copied};
 use crate::refusal::{Fault, Field, Fields, Refusal};
-use crate::report::report_count;
+use crate::report::{report_count, write_all};
 use elf_file::{ElfFault, load_elf};
+use il_text::list;
 use ilc_build::{BuildFault, build_body};
 use ilc_io::{FileFault, Files, Sink, Source, read_file, write_file};
+use md_tables::{Module, TableFault, read_tables};
 use num_core::{Bytes, Text};
+use pe_image::{PeFault, open_image};
 use rv_step::{Machine, RunFault};
 use std::alloc::Global;
 
-/// The most bytes of the file of a body.
-const BODY_LIMIT: u64 = 16_777_216;
+/// The most bytes of a file other than an executable.
+const FILE_LIMIT: u64 = 16_777_216;
 
 /// The most bytes of an executable file.
 const ELF_LIMIT: u64 = 1_073_741_824;
@@ -52,6 +57,7 @@ pub(crate) fn perform<F: Files, I: Source, O: Sink, E: Sink>(
             Ok(mut machine) => run(&mut machine, input, out, err, steps, count),
             Err(outcome) => outcome,
         },
+        Ok(Command::Dis { file }) => dis(alloc, files, out, &file),
     }
 }
 
@@ -77,14 +83,14 @@ fn build<F: Files>(alloc: Global, files: &mut F, file: &Text) -> Result<Bytes, O
         (F.write_faults files.old))
         (store_seen (F.told files.new) (F.asked files.new) (F.calls files.new) (F.read_faults files.new)
         (F.write_faults files.new))) }
-    ensures refused { IfErr result (NotTaken body_stages file.now BODY_LIMIT
+    ensures refused { IfErr result (NotTaken body_stages file.now FILE_LIMIT
         (store_seen (F.told files.old) (F.asked files.old) (F.calls files.old) (F.read_faults files.old)
         (F.write_faults files.old))
         (store_seen (F.told files.new) (F.asked files.new) (F.calls files.new) (F.read_faults files.new)
         (F.write_faults files.new))) }
     ensures same_files { F.told files.new ≡ F.told files.old }
 {
-    let bytes = match read(alloc, files, file, BODY_LIMIT) {
+    let bytes = match read(alloc, files, file, FILE_LIMIT) {
         Ok(bytes) => bytes,
         Err(outcome) => return Err(outcome),
     };
@@ -114,7 +120,9 @@ fn load<F: Files>(alloc: Global, files: &mut F, elf: &Text) -> Result<Machine, O
     };
     match load_elf(alloc, content.as_slice()) {
         Ok(machine) => Ok(machine),
-        Err(ElfFault::BadElf(place)) => Err(refused(alloc, Fault::BadElf, elf.bytes(), place)),
+        Err(ElfFault::BadElf(place)) => {
+            Err(refused(alloc, Fault::BadElf, elf.bytes(), &[place]))
+        }
         Err(ElfFault::Memory) => Err(Outcome::Memory),
     }
 }
@@ -160,13 +168,21 @@ fn build_outcome(alloc: Global, fault: BuildFault, file: &Text) -> Outcome
     ensures { (bytes : List ℕ) → IsRefusedBy bytes file.now fault result }
 {
     match fault {
-        BuildFault::BadHeader(at) => refused(alloc, Fault::BadHeader, file.bytes(), at as u64),
-        BuildFault::BadOpcode(at) => refused(alloc, Fault::BadOpcode, body_method(), at as u64),
-        BuildFault::BadTarget(at) => refused(alloc, Fault::BadTarget, body_method(), at as u64),
-        BuildFault::OpcodeOutside(at) => {
-            refused(alloc, Fault::OpcodeOutside, body_method(), at as u64)
+        BuildFault::BadHeader(at) => {
+            refused(alloc, Fault::BadHeader, file.bytes(), &[at as u64])
         }
-        BuildFault::Unverified(at) => refused(alloc, Fault::Unverified, body_method(), at as u64),
+        BuildFault::BadOpcode(at) => {
+            refused(alloc, Fault::BadOpcode, body_method(), &[at as u64])
+        }
+        BuildFault::BadTarget(at) => {
+            refused(alloc, Fault::BadTarget, body_method(), &[at as u64])
+        }
+        BuildFault::OpcodeOutside(at) => {
+            refused(alloc, Fault::OpcodeOutside, body_method(), &[at as u64])
+        }
+        BuildFault::Unverified(at) => {
+            refused(alloc, Fault::Unverified, body_method(), &[at as u64])
+        }
         BuildFault::Memory => Outcome::Memory,
     }
 }
@@ -178,16 +194,30 @@ fn body_method() -> &'static [u8]
     b"[body]Body::Main()->System.Int32"
 }
 
-/// The refusal for a fault at a place of what has this text.
-fn refused(alloc: Global, fault: Fault, text: &[u8], place: u64) -> Outcome
-    ensures { IsOrMemory (Refused (fault_at fault text.now place)) result }
+/// The refusal for a fault of what has this text, of which these numbers are told, two at most.
+fn refused(alloc: Global, fault: Fault, text: &[u8], numbers: &[u64]) -> Outcome
+    ensures { IsOrMemory (Refused (fault_of fault text.now numbers.now)) result }
 {
     match copied(alloc, text) {
         Ok(text) => Outcome::Refused(Refusal {
             fault,
-            fields: Fields::Two(Field::Text(text), Field::Number(place)),
+            fields: fields(text, numbers),
         }),
         Err(_) => Outcome::Memory,
+    }
+}
+
+/// The fields of a text and numbers, two at most.
+fn fields(text: Text, numbers: &[u64]) -> Fields
+    ensures { result ≡ fields_of text numbers.now }
+{
+    let text = Field::Text(text);
+    let Some((first, rest)) = numbers.split_first() else {
+        return Fields::One(text);
+    };
+    match rest.first() {
+        None => Fields::Two(text, Field::Number(*first)),
+        Some(second) => Fields::Three(text, Field::Number(*first), Field::Number(*second)),
     }
 }
 
@@ -240,5 +270,130 @@ fn run<I: Source, O: Sink, E: Sink>(
         }),
         Err(RunFault::ReadFault) => Outcome::ReadFault,
         Err(RunFault::WriteFault) => Outcome::WriteFault,
+    }
+}
+
+/// Why a file holds no assembly.
+pub(crate) enum AssemblyFault {
+    Image(PeFault),
+    Tables(TableFault),
+}
+
+/// Prints the text of the assembly in a file.
+fn dis<F: Files, O: Sink>(alloc: Global, files: &mut F, out: &mut O, file: &Text) -> Outcome
+    ensures outcome { (rest error : Option (List ℕ)) (input_faults error_faults : ℕ) → DisOutcome file.now
+        (store_seen (F.told files.old) (F.asked files.old) (F.calls files.old) (F.read_faults files.old)
+        (F.write_faults files.old))
+        (store_seen (F.told files.new) (F.asked files.new) (F.calls files.new) (F.read_faults files.new)
+        (F.write_faults files.new))
+        (streams_seen rest (O.written out.old) error input_faults (O.faults out.old) error_faults)
+        (streams_seen rest (O.written out.new) error input_faults (O.faults out.new) error_faults)
+        result }
+    ensures same_files { F.told files.new ≡ F.told files.old }
+{
+    let assembly = match assembly(alloc, files, file) {
+        Ok(assembly) => assembly,
+        Err(outcome) => return outcome,
+    };
+    match list(alloc, &assembly) {
+        Ok(text) => print(out, text.as_slice()),
+        Err(_) => Outcome::Memory,
+    }
+}
+
+/// Writes a text as output.
+fn print<O: Sink>(out: &mut O, text: &[u8]) -> Outcome
+    ensures { (rest error : Option (List ℕ)) (input_faults error_faults : ℕ) → TextOutcome text.now
+        (streams_seen rest (O.written out.old) error input_faults (O.faults out.old) error_faults)
+        (streams_seen rest (O.written out.new) error input_faults (O.faults out.new) error_faults)
+        result }
+{
+    match write_all(out, text) {
+        Ok(()) => Outcome::Written,
+        Err(_) => Outcome::WriteFault,
+    }
+}
+
+/// The module of the assembly in a file.
+fn assembly<F: Files>(alloc: Global, files: &mut F, file: &Text) -> Result<Module, Outcome>
+    ensures read { IfOk result (λ assembly. IsAssembly file.now assembly
+        (store_seen (F.told files.old) (F.asked files.old) (F.calls files.old) (F.read_faults files.old)
+        (F.write_faults files.old))
+        (store_seen (F.told files.new) (F.asked files.new) (F.calls files.new) (F.read_faults files.new)
+        (F.write_faults files.new))) }
+    ensures refused { IfErr result (NotTaken assembly_stages file.now FILE_LIMIT
+        (store_seen (F.told files.old) (F.asked files.old) (F.calls files.old) (F.read_faults files.old)
+        (F.write_faults files.old))
+        (store_seen (F.told files.new) (F.asked files.new) (F.calls files.new) (F.read_faults files.new)
+        (F.write_faults files.new))) }
+    ensures same_files { F.told files.new ≡ F.told files.old }
+{
+    let bytes = match read(alloc, files, file, FILE_LIMIT) {
+        Ok(bytes) => bytes,
+        Err(outcome) => return Err(outcome),
+    };
+    match module_in(alloc, bytes.as_slice()) {
+        Ok(assembly) => Ok(assembly),
+        Err(fault) => Err(assembly_outcome(alloc, fault, file)),
+    }
+}
+
+/// The module of the assembly that bytes are.
+fn module_in(alloc: Global, bytes: &[u8]) -> Result<Module, AssemblyFault>
+    requires { length bytes.now < 2 ^ 32 }
+    ensures read { IfOk result (Assembles bytes.now) }
+    ensures refused { IfErr result (IsNoAssembly bytes.now) }
+{
+    let image = match open_image(bytes) {
+        Ok(image) => image,
+        Err(fault) => return Err(AssemblyFault::Image(fault)),
+    };
+    match read_tables(alloc, &image) {
+        Ok(assembly) => Ok(assembly),
+        Err(fault) => Err(AssemblyFault::Tables(fault)),
+    }
+}
+
+/// The outcome of a file that holds no assembly.
+fn assembly_outcome(alloc: Global, fault: AssemblyFault, file: &Text) -> Outcome
+    ensures { (bytes : List ℕ) → IsUnreadable bytes file.now fault result }
+{
+    match fault {
+        AssemblyFault::Image(fault) => image_outcome(alloc, fault, file),
+        AssemblyFault::Tables(fault) => tables_outcome(alloc, fault, file),
+    }
+}
+
+/// The outcome of a file that is no image.
+fn image_outcome(alloc: Global, fault: PeFault, file: &Text) -> Outcome
+    ensures { IsOrMemory (Refused (refusal_of file.now (image_finding fault))) result }
+{
+    match fault {
+        PeFault::NotPe => refused(alloc, Fault::NotPe, file.bytes(), &[]),
+        PeFault::NoCliHeader => refused(alloc, Fault::NoCliHeader, file.bytes(), &[]),
+        PeFault::Cut(place) => refused(alloc, Fault::Cut, file.bytes(), &[place]),
+    }
+}
+
+/// The outcome of an image whose tables are refused.
+fn tables_outcome(alloc: Global, fault: TableFault, file: &Text) -> Outcome
+    ensures { TellsTables file.now fault result }
+{
+    match fault {
+        TableFault::BadTable(table, row) => {
+            refused(
+                alloc,
+                Fault::BadTable,
+                file.bytes(),
+                &[table as u64, row as u64],
+            )
+        }
+        TableFault::RefusedTable(table) => {
+            refused(alloc, Fault::RefusedTable, file.bytes(), &[table as u64])
+        }
+        TableFault::BadHeader(address) => {
+            refused(alloc, Fault::BadHeader, file.bytes(), &[address as u64])
+        }
+        TableFault::Memory => Outcome::Memory,
     }
 }

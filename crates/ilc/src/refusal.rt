@@ -7,7 +7,17 @@ use rv_step::Cause;
 /// What is wrong with the input of a command.
 #[derive(Clone, Copy, Debug, PartialEq, Eq)]
 pub enum Fault {
-    /// A file is no tiny header and its code (ECMA-335 II.25.4.2).
+    /// A file doesn't begin as a PE file does.
+    NotPe,
+    /// A file holds no metadata, or code that isn't CIL (ECMA-335 II.25).
+    NoCliHeader,
+    /// A header or a range of bytes of an image isn't whole.
+    Cut,
+    /// A row of a table of metadata is bad (ECMA-335 II.22).
+    BadTable,
+    /// A table of metadata that no assembly has.
+    RefusedTable,
+    /// A file is no tiny header and its code, or no whole body stands at a method's address (ECMA-335 II.25.4).
     BadHeader,
     /// No instruction stands whole at an offset of the code (ECMA-335 III.1.2).
     BadOpcode,
@@ -71,6 +81,11 @@ impl Fault {
         ensures status { result.status ≡ (refusal_row self).status }
     {
         match self {
+            Fault::NotPe => row(1, b"NotPe", 65),
+            Fault::NoCliHeader => row(2, b"NoCliHeader", 65),
+            Fault::Cut => row(3, b"Cut", 65),
+            Fault::BadTable => row(4, b"BadTable", 65),
+            Fault::RefusedTable => row(5, b"RefusedTable", 65),
             Fault::BadHeader => row(9, b"BadHeader", 65),
             Fault::BadOpcode => row(10, b"BadOpcode", 65),
             Fault::BadTarget => row(11, b"BadTarget", 65),

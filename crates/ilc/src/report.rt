@@ -224,7 +224,7 @@ fn write_pieces<S: Sink>(sink: &mut S, pieces: &[&[u8]]) -> Result<(), Failed>
 }
 
 /// Writes all of the bytes. A refused write breaks them off.
-fn write_all<S: Sink>(sink: &mut S, bytes: &[u8]) -> Result<(), Failed>
+pub(crate) fn write_all<S: Sink>(sink: &mut S, bytes: &[u8]) -> Result<(), Failed>
     ensures written { OnOk result (Adds bytes.now (S.written sink.old) (S.written sink.new)) }
     ensures broken_off { OnErr result (AddsFront bytes.now (S.written sink.old) (S.written sink.new)) }
     ensures failed { OnErr result (HasRisen (S.faults sink.old) (S.faults sink.new)) }

@@ -1,402 +1,309 @@
+//! Calls of `ilc` over files in memory, in rows: the words of a call or a body in hexadecimal digits, and behind the
+//! equals sign the status, with the line of error text where there is one.
 use crate::ilc;
-use elf_file::{ElfLayout, TEXT_AT, write_elf};
 use ilc_io::{MemFiles, MemSink, MemSource};
-use num_core::{Bytes, List, Memory, Text};
+use num_core::{List, Text};
 use std::alloc::Global;
 use std::process::Abort;
 use std::test::Fail;
 
-/// Three times addi x0, x0, 0; addi a0, x0, 7; addi a7, x0, 93; ecall: six steps to the end, with status 7.
-const SIX_STEPS: [u8; 24] = [
-    0x13, 0x00, 0x00, 0x00, 0x13, 0x00, 0x00, 0x00, 0x13, 0x00, 0x00, 0x00, 0x13, 0x05, 0x70, 0x00,
-    0x93, 0x08, 0xD0, 0x05, 0x73, 0x00, 0x00, 0x00,
-];
-
 /// Bodies, and the status that the program built of each ends with: the low byte of a constant in each form, of sums,
 /// differences and products, and of what is decided by branches.
-static ENDED: [(&[u8], u8); 21] = [
-    (b"\x0A\x15\x2A", 255),
-    (b"\x0A\x16\x2A", 0),
-    (b"\x0A\x1E\x2A", 8),
-    (b"\x0E\x1F\x80\x2A", 128),
-    (b"\x1A\x20\xFF\xFF\xFF\x7F\x2A", 255),
-    (b"\x1A\x20\x00\x00\x00\x80\x2A", 0),
-    (b"\x1A\x20\x39\x30\x00\x00\x2A", 57),
-    (b"\x22\x20\xFF\xFF\xFF\x7F\x17\x58\x2A", 0),
-    (b"\x12\x18\x17\x59\x2A", 1),
-    (b"\x12\x17\x18\x59\x2A", 255),
-    (b"\x1E\x00\x1D\x18\x26\x25\x5A\x2A", 49),
-    (
-        b"\x42\x17\x17\x17\x17\x17\x17\x17\x17\x58\x58\x58\x58\x58\x58\x58\x2A",
-        8,
-    ),
-    (b"\x26\x17\x2D\x03\x1F\x0A\x2A\x1F\x14\x2A", 20),
-    (b"\x26\x16\x2D\x03\x1F\x0A\x2A\x1F\x14\x2A", 10),
-    (b"\x32\x17\x3A\x03\x00\x00\x00\x1F\x0A\x2A\x1F\x14\x2A", 20),
-    (b"\x2A\x2B\x03\x1F\x07\x2A\x38\xF8\xFF\xFF\xFF", 7),
-    (b"\x12\x17\x2A\x14\x2A", 1),
-    (b"\x0E\x17\x2A\x00", 1),
-    (b"\x2E\x20\x00\x00\x00\x80\x2D\x02\x16\x2A\x17\x2A", 1),
-    (
-        b"\x36\x20\x00\x00\x00\x80\x25\x58\x2D\x02\x16\x2A\x17\x2A",
-        0,
-    ),
-    (b"\x2A\x17\x25\x58\x25\x1F\x40\x59\x2D\xF8\x2A", 64),
-];
+static ENDED: &str = "\
+0A152A = 255
+0A162A = 0
+0A1E2A = 8
+0E1F802A = 128
+1A20FFFFFF7F2A = 255
+1A20000000802A = 0
+1A20393000002A = 57
+2220FFFFFF7F17582A = 0
+121817592A = 1
+121718592A = 255
+1E001D1826255A2A = 49
+421717171717171717585858585858582A = 8
+26172D031F0A2A1F142A = 20
+26162D031F0A2A1F142A = 10
+32173A030000001F0A2A1F142A = 20
+2A2B031F072A38F8FFFFFF = 7
+12172A142A = 1
+0E172A00 = 1
+2E20000000802D02162A172A = 1
+36200000008025582D02162A172A = 0
+2A172558251F40592DF82A = 64
+";
 
-/// Bodies that are refused, with the status and the line: headers, opcodes, targets and control past the end, opcodes
-/// that aren't compiled, and stacks that don't fit.
-static REFUSED: [(&[u8], u8, &str); 25] = [
-    (b"", 65, "ilc: 9 BadHeader F 0\n"),
-    (b"\x0E\x1F\x2A", 65, "ilc: 9 BadHeader F 3\n"),
-    (b"\x0E\x1F\x2A\x2A\x00", 65, "ilc: 9 BadHeader F 4\n"),
-    (
-        b"\x0A\x24\x2A",
-        65,
-        "ilc: 10 BadOpcode [body]Body::Main()->System.Int32 0\n",
-    ),
-    (
-        b"\x0E\x17\x20\x2A",
-        65,
-        "ilc: 10 BadOpcode [body]Body::Main()->System.Int32 1\n",
-    ),
-    (
-        b"\x06\xFE",
-        65,
-        "ilc: 10 BadOpcode [body]Body::Main()->System.Int32 0\n",
-    ),
-    (
-        b"\x12\x2B\x05\x24\x2A",
-        65,
-        "ilc: 10 BadOpcode [body]Body::Main()->System.Int32 2\n",
-    ),
-    (
-        b"\x0A\x2B\x01",
-        65,
-        "ilc: 11 BadTarget [body]Body::Main()->System.Int32 0\n",
-    ),
-    (
-        b"\x12\x2B\x01\x1F\x2A",
-        65,
-        "ilc: 11 BadTarget [body]Body::Main()->System.Int32 0\n",
-    ),
-    (
-        b"\x12\x17\x2A\x2B\x05",
-        65,
-        "ilc: 11 BadTarget [body]Body::Main()->System.Int32 2\n",
-    ),
-    (
-        b"\x02",
-        65,
-        "ilc: 11 BadTarget [body]Body::Main()->System.Int32 0\n",
-    ),
-    (
-        b"\x0A\x1F\x2A",
-        65,
-        "ilc: 11 BadTarget [body]Body::Main()->System.Int32 0\n",
-    ),
-    (
-        b"\x0E\x17\x2D\xFD",
-        65,
-        "ilc: 11 BadTarget [body]Body::Main()->System.Int32 1\n",
-    ),
-    (
-        b"\x0A\x14\x00",
-        65,
-        "ilc: 11 BadTarget [body]Body::Main()->System.Int32 1\n",
-    ),
-    (
-        b"\x0A\x14\x2A",
-        69,
-        "ilc: 24 OpcodeOutside [body]Body::Main()->System.Int32 0\n",
-    ),
-    (
-        b"\x0E\x17\x0A\x2A",
-        69,
-        "ilc: 24 OpcodeOutside [body]Body::Main()->System.Int32 1\n",
-    ),
-    (
-        b"\x16\x2B\x01\x2A\x14\x2A",
-        69,
-        "ilc: 24 OpcodeOutside [body]Body::Main()->System.Int32 3\n",
-    ),
-    (
-        b"\x12\x26\x14\x26\x2A",
-        69,
-        "ilc: 24 OpcodeOutside [body]Body::Main()->System.Int32 1\n",
-    ),
-    (
-        b"\x06\x2A",
-        70,
-        "ilc: 20 Unverified [body]Body::Main()->System.Int32 0\n",
-    ),
-    (
-        b"\x0E\x17\x58\x2A",
-        70,
-        "ilc: 20 Unverified [body]Body::Main()->System.Int32 1\n",
-    ),
-    (
-        b"\x0E\x17\x17\x2A",
-        70,
-        "ilc: 20 Unverified [body]Body::Main()->System.Int32 2\n",
-    ),
-    (
-        b"\x4A\x17\x17\x17\x17\x17\x17\x17\x17\x17\x58\x58\x58\x58\x58\x58\x58\x58\x2A",
-        70,
-        "ilc: 20 Unverified [body]Body::Main()->System.Int32 9\n",
-    ),
-    (
-        b"\x0E\x2D\x00\x2A",
-        70,
-        "ilc: 20 Unverified [body]Body::Main()->System.Int32 0\n",
-    ),
-    (
-        b"\x1A\x17\x2D\x01\x17\x17\x2A",
-        70,
-        "ilc: 20 Unverified [body]Body::Main()->System.Int32 4\n",
-    ),
-    (
-        b"\x0E\x17\x2B\xFD",
-        70,
-        "ilc: 20 Unverified [body]Body::Main()->System.Int32 0\n",
-    ),
-];
+/// Bodies that are refused: headers, opcodes, targets and control past the end, opcodes that aren't compiled, and
+/// stacks that don't fit.
+static REFUSED: &str = "\
+0E1F2A = 65 ilc: 9 BadHeader F 3
+0E1F2A2A00 = 65 ilc: 9 BadHeader F 4
+0A242A = 65 ilc: 10 BadOpcode [body]Body::Main()->System.Int32 0
+0E17202A = 65 ilc: 10 BadOpcode [body]Body::Main()->System.Int32 1
+06FE = 65 ilc: 10 BadOpcode [body]Body::Main()->System.Int32 0
+122B05242A = 65 ilc: 10 BadOpcode [body]Body::Main()->System.Int32 2
+0A2B01 = 65 ilc: 11 BadTarget [body]Body::Main()->System.Int32 0
+122B011F2A = 65 ilc: 11 BadTarget [body]Body::Main()->System.Int32 0
+12172A2B05 = 65 ilc: 11 BadTarget [body]Body::Main()->System.Int32 2
+02 = 65 ilc: 11 BadTarget [body]Body::Main()->System.Int32 0
+0A1F2A = 65 ilc: 11 BadTarget [body]Body::Main()->System.Int32 0
+0E172DFD = 65 ilc: 11 BadTarget [body]Body::Main()->System.Int32 1
+0A1400 = 65 ilc: 11 BadTarget [body]Body::Main()->System.Int32 1
+0A142A = 69 ilc: 24 OpcodeOutside [body]Body::Main()->System.Int32 0
+0E170A2A = 69 ilc: 24 OpcodeOutside [body]Body::Main()->System.Int32 1
+162B012A142A = 69 ilc: 24 OpcodeOutside [body]Body::Main()->System.Int32 3
+122614262A = 69 ilc: 24 OpcodeOutside [body]Body::Main()->System.Int32 1
+062A = 70 ilc: 20 Unverified [body]Body::Main()->System.Int32 0
+0E17582A = 70 ilc: 20 Unverified [body]Body::Main()->System.Int32 1
+0E17172A = 70 ilc: 20 Unverified [body]Body::Main()->System.Int32 2
+4A17171717171717171758585858585858582A = 70 ilc: 20 Unverified [body]Body::Main()->System.Int32 9
+0E2D002A = 70 ilc: 20 Unverified [body]Body::Main()->System.Int32 0
+1A172D0117172A = 70 ilc: 20 Unverified [body]Body::Main()->System.Int32 4
+0E172BFD = 70 ilc: 20 Unverified [body]Body::Main()->System.Int32 0
+ = 65 ilc: 9 BadHeader F 0
+";
 
-/// Words, and the index of the first that is wrong or missing.
-static WRONG: [(&str, &str); 17] = [
-    ("", "ilc: usage 0\n"),
-    ("build F", "ilc: usage 0\n"),
-    ("body", "ilc: usage 1\n"),
-    ("body -o OUT", "ilc: usage 3\n"),
-    ("body F -o", "ilc: usage 3\n"),
-    ("body F G -o OUT", "ilc: usage 2\n"),
-    ("body F -x OUT", "ilc: usage 2\n"),
-    ("body -o OUT F -o OUT", "ilc: usage 4\n"),
-    ("run", "ilc: usage 1\n"),
-    ("run F G", "ilc: usage 2\n"),
-    ("run -v", "ilc: usage 1\n"),
-    ("run --count", "ilc: usage 2\n"),
-    ("run a --steps 07", "ilc: usage 3\n"),
-    ("run a --steps", "ilc: usage 3\n"),
-    ("run --steps +5 a", "ilc: usage 2\n"),
-    ("run --steps 9223372036854775808 a", "ilc: usage 2\n"),
-    ("run --steps 5 a --steps 6", "ilc: usage 4\n"),
-];
+/// Words of which one is wrong or missing, and its index. Nothing is created.
+static WRONG: &str = "\
+build F = 64 ilc: usage 0
+body = 64 ilc: usage 1
+body -o OUT = 64 ilc: usage 3
+body F -o = 64 ilc: usage 3
+body F G -o OUT = 64 ilc: usage 2
+body F -x OUT = 64 ilc: usage 2
+body -o OUT F -o OUT = 64 ilc: usage 4
+run = 64 ilc: usage 1
+run F G = 64 ilc: usage 2
+run -v = 64 ilc: usage 1
+run --count = 64 ilc: usage 2
+run a --steps 07 = 64 ilc: usage 3
+run a --steps = 64 ilc: usage 3
+run --steps +5 a = 64 ilc: usage 2
+run --steps 9223372036854775808 a = 64 ilc: usage 2
+run --steps 5 a --steps 6 = 64 ilc: usage 4
+dis = 64 ilc: usage 1
+dis F G = 64 ilc: usage 2
+dis -o F = 64 ilc: usage 1
+ = 64 ilc: usage 0
+run OUT = 66 ilc: nofile OUT
+";
 
-/// What a call gave: its status, what it printed, and what was printed as error text.
-#[derive(Drop)]
-struct Told {
-    status: u8,
-    out: MemSink,
-    err: MemSink,
+/// Files: the four bytes of the first program, a branch to itself, and an executable file of three times
+/// addi x0, x0, 0; addi a0, x0, 7; addi a7, x0, 93; ecall, which takes six steps, whole and cut to 63 bytes.
+static FILES: &str = "\
+F 0E1F2A2A
+LOOP 0A2BFE
+SIX 7F454C460201010000000000000000000200F300010000007800010000000000400000000000000000000000000000000000\
+    0000400038000100000000000000010000000500000000000000000000000000010000000000000001000000000090000000\
+    0000000090000000000000000010000000000000130000001300000013000000130570009308D00573000000
+CUT 7F454C460201010000000000000000000200F300010000007800010000000000400000000000000000000000000000000000\
+    00004000380001000000000000
+";
+
+/// Calls in a row.
+static CALLS: &str = "\
+body G -o OUT = 66 ilc: nofile G
+run OUT = 66 ilc: nofile OUT
+body F -o OUT = 0
+run OUT = 42
+run OUT --steps 1 = 124 ilc: 21 Spent 1
+body LOOP -o OUT = 0
+run OUT --steps 1000 = 124 ilc: 21 Spent 1000
+body -o OUT F = 0
+run OUT = 42
+run F --steps 0 = 65 ilc: 30 BadElf F 0
+run CUT = 65 ilc: 30 BadElf CUT 0
+run SIX --steps 5 = 124 ilc: 21 Spent 5
+run --count --steps 6 SIX = 7 steps 6
+dis F = 65 ilc: 1 NotPe F
+dis G = 66 ilc: nofile G
+";
+
+/// The same where calls of the store fail, which are counted from 0: of size, of reading, of creating, of appending.
+static FAILING: &str = "\
+body F -o OUT = 74 ilc: read fault
+body F -o OUT = 74 ilc: read fault
+run OUT = 66 ilc: nofile OUT
+body F -o OUT = 73 ilc: write fault
+run OUT = 66 ilc: nofile OUT
+body F -o OUT = 73 ilc: write fault
+run OUT = 65 ilc: 30 BadElf OUT 0
+";
+
+static FAILING_CALLS: [u64; 4] = [0, 2, 6, 11];
+
+/// An assembly by hand, of which `monodis` tells its name, its class and the code of its method.
+static ASSEMBLY: &str = "\
+    4D5A0000000000000000000000000000000000000000000000000000000000000000000000000000000000000000000000000000000000\
+    000000000040000000504500004C010100000000000000000000000000E00002010B010800340100000000000000000000000000000020\
+    00000000000000004000002000000002000004000000000000000400000000000000004000006001000000000000030000000000100000\
+    10000000001000001000000000000010000000000000000000000000000000000000000000000000000000000000000000000000000000\
+    00000000000000000000000000000000000000000000000000000000000000000000000000000000000000000000000000000000000000\
+    000000000000000000000000000000000000000000002000004800000000000000000000002E7465787400000034010000002000003401\
+    0000600100000000000000000000000000002000006048000000020005004C200000E80000000100000001000006000000000000000000\
+    0000000000000000000000000000000000000000000000000000000000000000000000000000000E1F2A2A42534A420100010000000000\
+    0C00000076342E302E33303331390000000004006000000058000000237E0000B80000001800000023537472696E677300000000D00000\
+    00100000002347554944000000E00000000800000023426C6F620000000000000002000001450000000000000000000000000000000100\
+    00000200000001000000000001000100000000000000000007000000000001000100010000001000000000000100010048200000000016\
+    00120001000100006D2E657865003C4D6F64756C653E0050004D61696E00000102030405060708090A0B0C0D0E0F100003000008000000";
+
+/// Its text.
+static LISTING: &str = "\
+.entry 100663297
+.user x
+.row 00 0 \"m.exe\" x0102030405060708090A0B0C0D0E0F10 x x
+.row 02 0 \"<Module>\" \"\" 02:0 1 1
+.row 02 1 \"P\" \"\" 02:0 1 1
+.row 06 0 22 \"Main\" x000008 1
+.body x0E
+ldc.i4.s 42
+ret
+.end x
+";
+
+fn put(alloc: Global, files: &mut MemFiles, name: &str, digits: &str) -> Result<(), Fail> {
+    let name = Text::new(alloc, name.as_bytes())?;
+    let bytes = hex::decode(alloc, digits)?;
+    files.put(&name, bytes.as_slice())?;
+    Ok(())
 }
 
-fn text(alloc: Global, bytes: &[u8]) -> Result<Text, Fail> {
-    Ok(Text::new(alloc, bytes)?)
+fn words_of(alloc: Global, line: &str) -> Result<List<Text>, Fail> {
+    let mut words = List::new(alloc);
+    for word in line.split_whitespace() {
+        words.push(Text::new(alloc, word.as_bytes())?)?;
+    }
+    Ok(words)
 }
 
-/// Calls `ilc` with the words of a line, which are parted by single spaces, over these files and no input.
-fn call(alloc: Global, files: &mut MemFiles, line: &str) -> Result<Told, Fail> {
-    call_failing(alloc, files, line, &[])
+/// Whether a status and a text are those of the answer, whose line ends the text.
+fn is_answer(status: u8, text: &[u8], answer: &str) -> bool {
+    let (number, line) = answer.split_once(' ').unwrap_or((answer, ""));
+    let is_line = match text {
+        [] => line.is_empty(),
+        [text @ .., b'\n'] => text == line.as_bytes(),
+        _ => false,
+    };
+    is_line && number.parse::<u8>().ok() == Some(status)
 }
 
-/// The same, where the writes of error text with these numbers fail.
-fn call_failing(
+/// Whether the call with these words answers so, and prints nothing else. The writes of error text with the numbers
+/// in `failing` fail.
+fn answers(
     alloc: Global,
     files: &mut MemFiles,
     line: &str,
-    fail: &[u64],
-) -> Result<Told, Fail> {
-    let mut words = List::new(alloc);
-    for word in line.split(' ') {
-        words.push(text(alloc, word.as_bytes())?)?;
-    }
-    call_with(alloc, files, words.as_slice(), fail)
-}
-
-fn call_with(
-    alloc: Global,
-    files: &mut MemFiles,
-    words: &[Text],
-    fail: &[u64],
-) -> Result<Told, Fail> {
+    answer: &str,
+    failing: &[u64],
+) -> Result<bool, Fail> {
+    let words = words_of(alloc, line)?;
     let mut input = MemSource::new(alloc, &[], &[])?;
     let mut out = MemSink::new(alloc, &[])?;
-    let mut err = MemSink::new(alloc, fail)?;
-    let status = ilc(alloc, words, files, &mut input, &mut out, &mut err);
-    Ok(Told { status, out, err })
+    let mut err = MemSink::new(alloc, failing)?;
+    let status = ilc(
+        alloc,
+        words.as_slice(),
+        files,
+        &mut input,
+        &mut out,
+        &mut err,
+    );
+    Ok(out.bytes().is_empty() && is_answer(status, err.bytes(), answer))
 }
 
-/// Files of which F has these bytes.
-fn with_body(alloc: Global, body: &[u8], fail: &[u64]) -> Result<MemFiles, Fail> {
-    let mut files = MemFiles::new(alloc, fail)?;
-    files.put(&text(alloc, b"F")?, body)?;
-    Ok(files)
-}
-
-/// The status of the program that is built of a body, or that of the refusal.
-fn built_and_run(alloc: Global, body: &[u8]) -> Result<u8, Fail> {
-    let mut files = with_body(alloc, body, &[])?;
-    let built = call(alloc, &mut files, "body F -o OUT")?;
-    if built.status != 0 {
-        return Ok(built.status);
+/// Each of the calls answers so.
+fn all_answer(
+    rt: &impl Abort,
+    alloc: Global,
+    calls: &str,
+    failing_calls: &[u64],
+    failing_lines: &[u64],
+) -> Result<(), Fail> {
+    let mut files = MemFiles::new(alloc, failing_calls)?;
+    for row in FILES.lines() {
+        let (name, digits) = row.split_once(' ').ok_or("no file")?;
+        put(alloc, &mut files, name, digits)?;
     }
-    Ok(call(alloc, &mut files, "run OUT")?.status)
-}
-
-/// Whether a call over a body gives this status and prints this line as error text, and creates nothing.
-fn refuses(alloc: Global, body: &[u8], words: &str, status: u8, line: &str) -> Result<bool, Fail> {
-    let mut files = with_body(alloc, body, &[])?;
-    let told = call(alloc, &mut files, words)?;
-    let created = files.get(&text(alloc, b"OUT")?).is_some();
-    Ok(is_told(&told, status, line) && !created)
-}
-
-/// Whether this status was given and this line printed as error text, and nothing else.
-fn is_told(told: &Told, status: u8, line: &str) -> bool {
-    told.status == status && told.err.bytes() == line.as_bytes() && told.out.bytes().is_empty()
-}
-
-/// The executable file of the six steps.
-fn six_steps(alloc: Global) -> Result<Bytes, Memory> {
-    let layout = ElfLayout {
-        text: Bytes::from_slice(alloc, &SIX_STEPS)?,
-        rest: Bytes::new(alloc),
-        zeros: 0,
-        entry: TEXT_AT,
-    };
-    write_elf(alloc, &layout)
-}
-
-/// The four bytes of the first program: its constant is the status, and nothing is printed.
-#[test]
-fn a_constant_is_the_status(rt: HostRuntime) -> Result<(), Fail> {
-    let mut files = with_body(rt.alloc(), b"\x0E\x1F\x2A\x2A", &[])?;
-    let built = call(rt.alloc(), &mut files, "body F -o OUT")?;
-    assert_eq!(rt; built.status, 0);
-    assert!(rt; built.out.bytes().is_empty() && built.err.bytes().is_empty());
-    let told = call(rt.alloc(), &mut files, "run OUT")?;
-    assert_eq!(rt; told.status, 42);
-    assert!(rt; told.out.bytes().is_empty() && told.err.bytes().is_empty());
-    Ok(())
-}
-
-/// Each of the bodies is built, and its program ends so.
-fn all_end(rt: &impl Abort, alloc: Global, cases: &[(&[u8], u8)]) -> Result<(), Fail> {
-    for (body, status) in cases {
-        let found = built_and_run(alloc, body)?;
-        assert!(rt; found == *status, "{found} for {status}");
+    for row in calls.lines() {
+        let (words, answer) = row.split_once(" = ").ok_or("no answer")?;
+        assert!(rt;
+            answers(alloc, &mut files, words, answer, failing_lines)?,
+            "{row}"
+        );
     }
     Ok(())
+}
+
+/// Whether a body is built so, and what is there then runs so.
+fn builds_and_runs(alloc: Global, digits: &str, built: &str, ran: &str) -> Result<bool, Fail> {
+    let mut files = MemFiles::new(alloc, &[])?;
+    put(alloc, &mut files, "F", digits)?;
+    Ok(
+        answers(alloc, &mut files, "body F -o OUT", built, &[])?
+            && answers(alloc, &mut files, "run OUT", ran, &[])?,
+    )
 }
 
 #[test]
 fn ended_bodies(rt: HostRuntime) -> Result<(), Fail> {
-    all_end(&rt, rt.alloc(), &ENDED)
+    for row in ENDED.lines() {
+        let (digits, status) = row.split_once(" = ").ok_or("no status")?;
+        assert!(rt; builds_and_runs(rt.alloc(), digits, "0", status)?, "{row}");
+    }
+    Ok(())
 }
 
-/// Each of the bodies is refused so.
-fn all_refused(rt: &impl Abort, alloc: Global, cases: &[(&[u8], u8, &str)]) -> Result<(), Fail> {
-    for (body, status, line) in cases {
+/// Nothing is created where a body is refused.
+#[test]
+fn refused_bodies(rt: HostRuntime) -> Result<(), Fail> {
+    for row in REFUSED.lines() {
+        let (digits, line) = row.split_once(" = ").ok_or("no line")?;
         assert!(rt;
-            refuses(alloc, body, "body F -o OUT", *status, line)?,
-            "{line}"
+            builds_and_runs(rt.alloc(), digits, line, "66 ilc: nofile OUT")?,
+            "{row}"
         );
     }
     Ok(())
 }
 
 #[test]
-fn refused_bodies(rt: HostRuntime) -> Result<(), Fail> {
-    all_refused(&rt, rt.alloc(), &REFUSED)
+fn calls(rt: HostRuntime) -> Result<(), Fail> {
+    all_answer(&rt, rt.alloc(), WRONG, &[], &[])?;
+    all_answer(&rt, rt.alloc(), CALLS, &[], &[])?;
+    all_answer(&rt, rt.alloc(), FAILING, &FAILING_CALLS, &[])?;
+    all_answer(
+        &rt,
+        rt.alloc(),
+        "run SIX --count = 73 ilc: write fault",
+        &[],
+        &[0],
+    )
 }
 
-/// Each of the lines of words is refused so.
-fn all_wrong(rt: &impl Abort, alloc: Global, cases: &[(&str, &str)]) -> Result<(), Fail> {
-    for (words, line) in cases {
-        assert!(rt; refuses(alloc, b"", words, 64, line)?, "{words}");
-    }
-    Ok(())
-}
-
-#[test]
-fn refused_words(rt: HostRuntime) -> Result<(), Fail> {
-    all_wrong(&rt, rt.alloc(), &WRONG)
-}
-
-/// A branch to itself goes on for ever, and prints nothing.
-#[test]
-fn a_loop_without_end(rt: HostRuntime) -> Result<(), Fail> {
-    let alloc = rt.alloc();
-    let mut files = with_body(alloc, b"\x0A\x2B\xFE", &[])?;
-    assert_eq!(rt; call(alloc, &mut files, "body F -o OUT")?.status, 0);
-    let told = call(alloc, &mut files, "run OUT --steps 1000")?;
-    assert!(rt; is_told(&told, 124, "ilc: 21 Spent 1000\n"));
-    Ok(())
-}
-
-/// A file that isn't there, one that is no executable, and a call with no words.
-#[test]
-fn refused_files(rt: HostRuntime) -> Result<(), Fail> {
-    let alloc = rt.alloc();
-    assert!(rt; refuses(alloc, b"", "body G -o OUT", 66, "ilc: nofile G\n")?);
-    assert!(rt; refuses(alloc, b"", "run F --steps 0", 65, "ilc: 30 BadElf F 0\n")?);
+/// Whether the assembly with these digits is told so: its text, or why there is none.
+fn is_listed(alloc: Global, digits: &str, text: &str, answer: &str) -> Result<bool, Fail> {
     let mut files = MemFiles::new(alloc, &[])?;
-    let told = call_with(alloc, &mut files, &[], &[])?;
-    assert!(rt; is_told(&told, 64, "ilc: usage 0\n"));
-    Ok(())
+    put(alloc, &mut files, "M", digits)?;
+    let words = words_of(alloc, "dis M")?;
+    let mut input = MemSource::new(alloc, &[], &[])?;
+    let mut out = MemSink::new(alloc, &[])?;
+    let mut err = MemSink::new(alloc, &[])?;
+    let status = ilc(
+        alloc,
+        words.as_slice(),
+        &mut files,
+        &mut input,
+        &mut out,
+        &mut err,
+    );
+    Ok(out.bytes() == text.as_bytes() && is_answer(status, err.bytes(), answer))
 }
 
+/// The text of an assembly, and of its first 400 bytes, in which the one section isn't whole.
 #[test]
-fn limited_and_counted(rt: HostRuntime) -> Result<(), Fail> {
-    let alloc = rt.alloc();
-    let elf = six_steps(alloc)?;
-    let mut files = with_body(alloc, elf.as_slice(), &[])?;
-    let told = call(alloc, &mut files, "run F --steps 5")?;
-    assert!(rt; is_told(&told, 124, "ilc: 21 Spent 5\n"));
-    let told = call(alloc, &mut files, "run --count --steps 6 F")?;
-    assert!(rt; is_told(&told, 7, "steps 6\n"));
-    let told = call_failing(alloc, &mut files, "run F --count", &[0])?;
-    assert!(rt; is_told(&told, 73, "ilc: write fault\n"));
-    Ok(())
-}
-
-/// The words in the other order, and a file cut to 63 bytes, whose header is cut.
-#[test]
-fn a_cut_file(rt: HostRuntime) -> Result<(), Fail> {
-    let alloc = rt.alloc();
-    let mut files = with_body(alloc, b"\x0E\x1F\x2A\x2A", &[])?;
-    assert_eq!(rt; call(alloc, &mut files, "body -o OUT F")?.status, 0);
-    let elf = files.get(&text(alloc, b"OUT")?).ok_or("no file")?;
-    let cut = List::from_slice(alloc, elf.get(..63).ok_or("too short")?)?;
-    files.put(&text(alloc, b"OUT")?, cut.as_slice())?;
-    let told = call(alloc, &mut files, "run OUT")?;
-    assert_eq!(rt; told.status, 65);
-    assert!(rt; told.err.bytes() == b"ilc: 30 BadElf OUT 0\n".as_slice());
-    Ok(())
-}
-
-/// The first call asks for the size, the second reads, the third creates and the fourth appends.
-#[test]
-fn a_store_that_fails(rt: HostRuntime) -> Result<(), Fail> {
-    let alloc = rt.alloc();
-    let out = text(alloc, b"OUT")?;
-    for (call_number, status, created) in [
-        (0, 74, false),
-        (1, 74, false),
-        (2, 73, false),
-        (3, 73, true),
-    ] {
-        let mut files = with_body(alloc, b"\x0E\x1F\x2A\x2A", &[call_number])?;
-        let told = call(alloc, &mut files, "body F -o OUT")?;
-        assert_eq!(rt; told.status, status);
-        let line = if status == 74 {
-            "ilc: read fault\n"
-        } else {
-            "ilc: write fault\n"
-        };
-        assert!(rt; told.err.bytes() == line.as_bytes());
-        assert!(rt; files.get(&out).is_some() == created);
-    }
+fn assemblies(rt: HostRuntime) -> Result<(), Fail> {
+    assert!(rt; is_listed(rt.alloc(), ASSEMBLY, LISTING, "0")?);
+    let front = ASSEMBLY.get(..800).ok_or("no front")?;
+    assert!(rt; is_listed(rt.alloc(), front, "", "65 ilc: 3 Cut M 352")?);
     Ok(())
 }

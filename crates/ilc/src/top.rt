@@ -1,5 +1,6 @@
 ghost use Rattle.std.specs.Prelude.{◌≡◌, ◌⊎◌, ℕ, List, Bool, ◌≤◌, Ok};
 ghost use Rattle.ilc.specs.Answer.{Answers, HasWritten, HasBare, HasProgram, NoneCounted, NoneOfStreams};
+ghost use Rattle.ilc.specs.Answer.{HasListed, HasAssembly};
 ghost use Rattle.ilc.specs.Seen.{store_seen, streams_seen};
 ghost use Rattle.ilc.specs.Words.{command_of};
 
@@ -14,8 +15,9 @@ use std::alloc::Global;
 /// process ends with.
 ///
 /// The words are those behind the program's name: `body FILE -o OUT` builds the bare body in FILE and writes an
-/// executable file to OUT, and `run ELF --steps N --count` runs an executable file on the machine for at most N
-/// steps, and prints as error text how many it did to its end. A refusal prints one line as error text.
+/// executable file to OUT, `run ELF --steps N --count` runs an executable file on the machine for at most N steps, and
+/// prints as error text how many it did to its end, and `dis FILE` prints the text of the assembly in FILE. A refusal
+/// prints one line as error text.
 pub fn ilc<F: Files, I: Source, O: Sink, E: Sink>(
     alloc: Global,
     words: &[Text],
@@ -62,6 +64,23 @@ pub fn ilc<F: Files, I: Source, O: Sink, E: Sink>(
         (streams_seen (I.rest input.new) (O.written out.new) (E.written err.new) (I.faults input.new)
         (O.faults out.new) (E.faults err.new))
         → (result ≡ status) ⊎ (result ≡ 75) }
+    // Where the words are `dis FILE` and the status is 0, the text of the assembly in FILE was written as output.
+    ensures dis { (file : List ℕ) → command_of words.now ≡ Ok (Command.Dis file) → result ≡ 0
+        → HasListed file (F.told files.old) (O.written out.old) (O.written out.new) }
+    // Where FILE has the bytes of an assembly and no fault is counted, its text is written, or memory is wanting.
+    ensures dis_complete { (file : List ℕ) → command_of words.now ≡ Ok (Command.Dis file)
+        → HasAssembly file (F.told files.old)
+        → NoneCounted
+        (store_seen (F.told files.old) (F.asked files.old) (F.calls files.old) (F.read_faults files.old)
+        (F.write_faults files.old))
+        (store_seen (F.told files.new) (F.asked files.new) (F.calls files.new) (F.read_faults files.new)
+        (F.write_faults files.new))
+        → NoneOfStreams
+        (streams_seen (I.rest input.old) (O.written out.old) (E.written err.old) (I.faults input.old)
+        (O.faults out.old) (E.faults err.old))
+        (streams_seen (I.rest input.new) (O.written out.new) (E.written err.new) (I.faults input.new)
+        (O.faults out.new) (E.faults err.new))
+        → (result ≡ 0) ⊎ (result ≡ 75) }
 {
     let outcome = perform(alloc, words, files, input, out, err);
     let _ = report(err, &outcome);

@@ -1,9 +1,9 @@
-use Rattle.std.proofs.Common.{◌≡◌, ◌∙◌, ap, sym, subst, Err}
+use Rattle.std.proofs.Common.{◌≡◌, ◌∙◌, [], ◌∷◌, ap, sym, subst, Err}
 use Rattle.elf_file.specs.Elf.{loaded, Gives}
 use Rattle.ilc.specs.Cause.{elf_limit}
 use Rattle.ilc.specs.Reading.{IsOrMemory}
 use Rattle.ilc.specs.Seen.{StoreSeen, store_seen}
-use Rattle.ilc.specs.Stages.{Load, elf_stages, fault_at}
+use Rattle.ilc.specs.Stages.{elf_stages, finding, fault_of}
 use Rattle.ilc.specs.declared.outcome.Outcome.TheVariants.{Refused}
 use Rattle.ilc.specs.declared.refusal.Fault.TheVariants.{BadElf}
 use Rattle.ilc.proofs.NotRead.{refused_or_memory, told_at, first_load}
@@ -30,9 +30,9 @@ returns-in-Err-BadElf-clause-refused g c =
     c.in-Err-BadElf.ensures.exact in
     refused_or_memory elf_stages c.args.elf.now elf_limit c.in-Ok.content before now c.refused.result
     c.in-Ok.ensures.read
-    (told_at elf_stages c.args.elf.now c.in-Ok.content Load c.in-Err-BadElf.place c.refused.result
+    (told_at elf_stages c.args.elf.now c.in-Ok.content (finding BadElf (c.in-Err-BadElf.place ∷ [])) c.refused.result
     (first_load c.in-Ok.content c.in-Err-BadElf.place bad)
-    (subst (λ text. IsOrMemory (Refused (fault_at BadElf text c.in-Err-BadElf.place)) c.refused.result)
+    (subst (λ text. IsOrMemory (Refused (fault_of BadElf text (c.in-Err-BadElf.place ∷ []))) c.refused.result)
     c.bytes.ensures.bytes c.refused.ensures))
 
 pub returns-in-Err-clause-refused : goal.returns-in-Err-clause-refused

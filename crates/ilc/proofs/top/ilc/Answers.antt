@@ -1,6 +1,6 @@
 use Rattle.std.proofs.Common.{◌≡◌, ◌∙◌, ◌⊎◌, ℕ, ◌≤◌, sym, subst, arith}
 use Rattle.ilc_io.specs.Count.{next_count, HasRisen}
-use Rattle.ilc.proofs.Answers.{cause_written, body_complete, run_complete}
+use Rattle.ilc.proofs.Answers.{cause_written, body_complete, run_complete, cause_listed, dis_complete}
 use Rattle.ilc.proofs.top.ilc.Goals as goal
 
 -- a count that has risen has still risen later
@@ -23,4 +23,15 @@ returns-clause-run_complete g c elf limit count steps status command within has 
     subst (λ n. (n ≡ status) ⊎ (n ≡ 75)) (sym c.status.ensures)
     (run_complete c.args.words.now _ _ _ _ c.perform-outcome.result elf limit count steps status
     c.perform-outcome.ensures command within has none
+    (calm.0, calm.1, λ risen. calm.2 (later _ _ _ risen c.report.ensures.faults_kept)))
+
+pub returns-clause-dis : goal.returns-clause-dis
+returns-clause-dis g c file command zero =
+    cause_listed c.args.words.now _ _ _ _ c.perform-outcome.result file c.perform-outcome.ensures command
+    (sym c.status.ensures ∙ zero)
+
+pub returns-clause-dis_complete : goal.returns-clause-dis_complete
+returns-clause-dis_complete g c file command has none calm =
+    subst (λ n. (n ≡ 0) ⊎ (n ≡ 75)) (sym c.status.ensures)
+    (dis_complete c.args.words.now _ _ _ _ c.perform-outcome.result file c.perform-outcome.ensures command has none
     (calm.0, calm.1, λ risen. calm.2 (later _ _ _ risen c.report.ensures.faults_kept)))
