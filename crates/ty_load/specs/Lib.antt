@@ -1,0 +1,14 @@
+pub mod Primitives
+pub mod Signatures
+pub mod Types
+pub mod Bases
+pub mod Cycles
+pub mod Entry
+pub mod Valid
+pub mod Members
+pub mod Refusals
+pub mod Tokens
+pub mod Walks
+pub mod Search
+pub mod Attributes
+pub mod Texts

@@ -1,0 +1,2 @@
+mod Angles
+mod Nested

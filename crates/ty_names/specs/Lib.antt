@@ -1,0 +1,6 @@
+pub mod Modules
+pub mod Definitions
+pub mod Nesting
+pub mod Escapes
+pub mod TypeTexts
+pub mod References
