@@ -6,7 +6,7 @@ use Rattle.std.proofs.lemmas.Option.{slice_get_within}
 use Rattle.std.proofs.lemmas.List.Elements.{All-contains, All-nil, All-tail, All-weaker}
 use Rattle.std.proofs.lemmas.List.Sorted.{All-permutation, Contains-permutation}
 use Rattle.std.specs.List.Sorted.{IsPermutation}
-use Rattle.std.specs.BTreeMap.{BTreeMap, is_at}
+use Rattle.std.specs.BTreeMap.{is_at}
 use Rattle.std.specs.Map.{lookup}
 use Rattle.dep_core.specs.declared.mark.Mark.{Mark}
 use Rattle.dep_core.specs.declared.waiting.Waiter.{Waiter}
@@ -18,7 +18,7 @@ use Rattle.dep_core.proofs.Adding.{contains_grows, get_grows, length_grows}
 
 module _ {N : Type 0} (root : N → Type 0) (gives : N → N → ℕ → Type 0) (awaits meets : N → N → N → ℕ → Type 0)
     (can_seek can_be_sought : N → Bool) (cmp : N → N → Ordering) where
-  abbrev UnderWay : List N → List ℕ → BTreeMap N (List (Waiter N)) → List ℕ → List ℕ → Type 0
+  abbrev UnderWay : List N → List ℕ → List (N × List (Waiter N)) → List ℕ → List ℕ → Type 0
   UnderWay ns work waiting seeking sought =
       IsUnderWay root gives awaits meets can_seek can_be_sought cmp ns work waiting seeking sought
 
@@ -32,7 +32,7 @@ module _ {N : Type 0} (root : N → Type 0) (gives : N → N → ℕ → Type 0)
       ]
 
   pub advanced : (Names : Mark N → Type 0) (ns ms : List N) (place : ℕ) (work work' : List ℕ) (told : List (Mark N))
-      (waiting waiting' : BTreeMap N (List (Waiter N))) (seeking seeking' sought sought' : List ℕ)
+      (waiting waiting' : List (N × List (Waiter N))) (seeking seeking' sought sought' : List ℕ)
       → UnderWay ns (place ∷ work) waiting seeking sought
       → IsTold gives awaits meets can_seek can_be_sought cmp Names ns place told waiting waiting' seeking seeking'
       sought sought'
@@ -102,7 +102,7 @@ module _ {N : Type 0} (root : N → Type 0) (gives : N → N → ℕ → Type 0)
       }
 
   -- the places that wait stand in another order
-  pub reordered : (ns : List N) (work other : List ℕ) (waiting : BTreeMap N (List (Waiter N))) (seeking sought : List ℕ)
+  pub reordered : (ns : List N) (work other : List ℕ) (waiting : List (N × List (Waiter N))) (seeking sought : List ℕ)
       → IsPermutation work other → UnderWay ns work waiting seeking sought → UnderWay ns other waiting seeking sought
   reordered ns work other waiting seeking sought same u = record {
     works = All-permutation (λ p. p < length ns) work other same u.works;
@@ -118,8 +118,8 @@ module _ {N : Type 0} (root : N → Type 0) (gives : N → N → ℕ → Type 0)
   }
 
   -- the roots are marked
-  pub begun : (ns ms : List N) (work' : List ℕ) (told : List (Mark N)) (waiting : BTreeMap N (List (Waiter N)))
-      → ns ≡ [] → waiting.entries ≡ [] → ((n : N) → root n → HasNode told n) → Grows ns ms [] work'
+  pub begun : (ns ms : List N) (work' : List ℕ) (told : List (Mark N)) (waiting : List (N × List (Waiter N)))
+      → ns ≡ [] → waiting ≡ [] → ((n : N) → root n → HasNode told n) → Grows ns ms [] work'
       → ((m : Mark N) → Contains told m → Contains ms m.node) → UnderWay ms work' waiting [] []
   begun ns ms work' told waiting empty none roots g marked = record {
     works = g.within (All-nil (λ p. p < length ns));
@@ -132,13 +132,13 @@ module _ {N : Type 0} (root : N → Type 0) (gives : N → N → ℕ → Type 0)
     sought_within = All-nil (λ p. p < length ms);
   }
     where
-      nothing : (waiting : BTreeMap N (List (Waiter N))) (b : N) → waiting.entries ≡ [] → waiters_of cmp waiting b ≡ []
+      nothing : (waiting : List (N × List (Waiter N))) (b : N) → waiting ≡ [] → waiters_of cmp waiting b ≡ []
       nothing waiting b e = ap (λ es. unwrap_or (lookup (is_at (cmp b)) es) []) e
 
   -- no place waits
   pub ended : ((a b n : N) (rule : ℕ) → meets a b n rule → (can_seek a ≡ true) × (can_be_sought b ≡ true))
       → (ns : List N)
-      (waiting : BTreeMap N (List (Waiter N))) (seeking sought : List ℕ) → UnderWay ns [] waiting seeking sought
+      (waiting : List (N × List (Waiter N))) (seeking sought : List ℕ) → UnderWay ns [] waiting seeking sought
       → IsClosed root (row_by gives awaits meets) ns
   ended only ns waiting seeking sought u = (u.roots, λ given n rule are by. closed given n rule are by)
     where

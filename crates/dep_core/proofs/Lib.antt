@@ -6,3 +6,9 @@ pub mod ToldMarks
 pub mod Waiters
 pub mod Meetings
 pub mod Advancing
+pub mod Chained
+pub mod InOrder
+pub mod Awaiting
+pub mod Finding
+pub mod TellingChain
+pub mod Records

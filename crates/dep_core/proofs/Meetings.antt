@@ -113,7 +113,7 @@ module _ {N : Type 0} where
       )
 
       pub parted_named : (IsRow : N → N → ℕ → Type 0) → ((b n : N) (rule : ℕ) → IsRow b n rule → awaits a b n rule)
-          → (told told' : List (Mark N)) (waiting waiting' : BTreeMap N (List (Waiter N)))
+          → (told told' : List (Mark N)) (waiting waiting' : List (N × List (Waiter N)))
           → AreParted cmp places place IsRow told told' waiting waiting' → All (Named ns) told → All (Named ns) told'
       parted_named IsRow are told told' waiting waiting' t all =
           all_from_contains (Named ns) told' (λ m h. elim (t.only m h) [
@@ -125,7 +125,7 @@ module _ {N : Type 0} where
       -- all together
       pub all_told : (rows : List (N × Need N)) (needs : List (Need N))
           (told0 told1 told2 told3 told4 told5 : List (Mark N))
-          (waiting waiting1 waiting2 : BTreeMap N (List (Waiter N))) (seeking seeking' sought sought' : List ℕ)
+          (waiting waiting1 waiting2 : List (N × List (Waiter N))) (seeking seeking' sought sought' : List ℕ)
           → ((b : N) (w : Waiter N) → Contains (waiters_of cmp waiting b) w → IsWaiter awaits ns b w)
           → told0 ≡ []
           → ((n : N) (rule : ℕ) → Contains needs (need_of n rule) ↔ gives a n rule)
@@ -202,7 +202,7 @@ module _ {N : Type 0} where
             ];
           }
         where
-          stays : (waiting1 waiting2 : BTreeMap N (List (Waiter N))) (told5 : List (Mark N))
+          stays : (waiting1 waiting2 : List (N × List (Waiter N))) (told5 : List (Mark N))
               → ((other : N) → is_eq (cmp a other) ≡ false → waiters_of cmp waiting2 other ≡ waiters_of cmp waiting1
               other)
               → ((w : Waiter N) → Contains (waiters_of cmp waiting1 a) w → HasNode told5 w.node)
@@ -212,7 +212,7 @@ module _ {N : Type 0} where
               (subst (λ x. Contains (waiters_of cmp waiting1 x) w) (sym (exact a b (is_eq_true (cmp a b) e))) h))
           stays waiting1 waiting2 told5 there has b w false e h = inl (subst (λ l. Contains l w) (sym (there b e)) h)
 
-          back : (waiting1 waiting2 : BTreeMap N (List (Waiter N))) → waiters_of cmp waiting2 a ≡ []
+          back : (waiting1 waiting2 : List (N × List (Waiter N))) → waiters_of cmp waiting2 a ≡ []
               → ((other : N) → is_eq (cmp a other) ≡ false → waiters_of cmp waiting2 other ≡ waiters_of cmp waiting1
               other)
               → (b : N) (w : Waiter N) (t : Bool) → is_eq (cmp a b) ≡ t → Contains (waiters_of cmp waiting2 b) w

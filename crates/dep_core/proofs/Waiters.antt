@@ -24,7 +24,7 @@ module _ {N : Type 0} where
 
 -- of some rows these are left
 pub record IsParting {N : Type 0} (cmp : N → N → Ordering) (places : BTreeMap N ℕ) (place : ℕ)
-    (rows left : List (N × Need N)) (told told' : List (Mark N)) (waiting waiting' : BTreeMap N (List (Waiter N))) :
+    (rows left : List (N × Need N)) (told told' : List (Mark N)) (waiting waiting' : List (N × List (Waiter N))) :
     Type 0
   where
     pub rest : (x : N × Need N) → Contains left x → Contains rows x
@@ -41,7 +41,7 @@ pub record IsParting {N : Type 0} (cmp : N → N → Ordering) (places : BTreeMa
 module _ {N : Type 0} (cmp : N → N → Ordering) (places : BTreeMap N ℕ) (place : ℕ) where
   -- a row whose awaited node is marked
   pub parted_told : (awaited node : N) (rule also : ℕ) (told told' : List (Mark N))
-      (waiting : BTreeMap N (List (Waiter N))) → get cmp places awaited ≡ Some also
+      (waiting : List (N × List (Waiter N))) → get cmp places awaited ≡ Some also
       → told' ≡ told ++ mark_of node rule (Some place) (Some also) ∷ []
       → AreParted cmp places place (IsThisRow awaited node rule) told told' waiting waiting
   parted_told awaited node rule also told told' waiting at is =
@@ -60,7 +60,7 @@ module _ {N : Type 0} (cmp : N → N → Ordering) (places : BTreeMap N ℕ) (pl
 
   -- a row whose awaited node isn't
   pub parted_waits : ((x y : N) → cmp x y ≡ Equal → x ≡ y) → (awaited node : N) (rule : ℕ) (told : List (Mark N))
-      (waiting waiting' : BTreeMap N (List (Waiter N))) → get cmp places awaited ≡ None
+      (waiting waiting' : List (N × List (Waiter N))) → get cmp places awaited ≡ None
       → waiters_of cmp waiting' awaited ≡ waiters_of cmp waiting awaited ++ waiter_of node rule place ∷ []
       → ((other : N) → is_eq (cmp awaited other) ≡ false → waiters_of cmp waiting' other ≡ waiters_of cmp waiting other)
       → AreParted cmp places place (IsThisRow awaited node rule) told told waiting waiting'
@@ -113,7 +113,7 @@ module _ {N : Type 0} (cmp : N → N → Ordering) (places : BTreeMap N ℕ) (pl
           subst (λ k. Contains (waiters_of cmp waiting' b) (waiter_of n k place)) row.2 third
 
   -- ---- rows one after another
-  pub parting_none : (rows : List (N × Need N)) (told : List (Mark N)) (waiting : BTreeMap N (List (Waiter N)))
+  pub parting_none : (rows : List (N × Need N)) (told : List (Mark N)) (waiting : List (N × List (Waiter N)))
       → IsParting cmp places place rows rows told told waiting waiting
   parting_none rows told waiting = record {
     rest = λ x h. h;
@@ -125,7 +125,7 @@ module _ {N : Type 0} (cmp : N → N → Ordering) (places : BTreeMap N ℕ) (pl
   }
 
   pub parting_more : (rows left rest : List (N × Need N)) (awaited : N) (need : Need N) (told mid new : List (Mark N))
-      (waiting mid_waiting new_waiting : BTreeMap N (List (Waiter N))) → left ≡ rest ++ (awaited, need) ∷ []
+      (waiting mid_waiting new_waiting : List (N × List (Waiter N))) → left ≡ rest ++ (awaited, need) ∷ []
       → IsParting cmp places place rows left told mid waiting mid_waiting
       → AreParted cmp places place (IsThisRow awaited need.node need.rule) mid new mid_waiting new_waiting
       → IsParting cmp places place rows rest told new waiting new_waiting
@@ -167,7 +167,7 @@ module _ {N : Type 0} (cmp : N → N → Ordering) (places : BTreeMap N ℕ) (pl
       }
 
   pub parting_all : (rows left : List (N × Need N)) (told told' : List (Mark N))
-      (waiting waiting' : BTreeMap N (List (Waiter N))) → length left ≡ 0
+      (waiting waiting' : List (N × List (Waiter N))) → length left ≡ 0
       → IsParting cmp places place rows left told told' waiting waiting'
       → AreParted cmp places place (IsRowIn rows) told told' waiting waiting'
   parting_all rows left told told' waiting waiting' none p = record {

@@ -2,7 +2,8 @@
 use Rattle.std.specs.Prelude.{◌≡◌, ◌⊎◌, ℕ, ◌+◌, ◌≤◌, ◌<◌, true, Bool, List, [], ◌++◌, All, Contains, length, slice_get}
 use Rattle.std.specs.Prelude.{Option, Some, None, unwrap_or}
 use Rattle.std.specs.declared.cmp.Ordering.{Ordering}
-use Rattle.std.specs.BTreeMap.{BTreeMap, get}
+use Rattle.std.specs.BTreeMap.{BTreeMap, get, is_at}
+use Rattle.std.specs.Map.{lookup}
 use Rattle.dep_core.specs.declared.mark.Mark.{Mark}
 use Rattle.dep_core.specs.declared.waiting.Waiter.{Waiter}
 use Rattle.dep_core.specs.Marks.{nodes_of, NamesRow, AreMarks}
@@ -22,8 +23,8 @@ module _ {N : Type 0} where
   HasNode told n = (m : Mark N) × Contains told m × (m.node ≡ n)
 
   -- what waits for a node
-  abbrev pub waiters_of : (N → N → Ordering) → BTreeMap N (List (Waiter N)) → N → List (Waiter N)
-  waiters_of cmp waiting n = unwrap_or (get cmp waiting n) []
+  abbrev pub waiters_of : (N → N → Ordering) → List (N × List (Waiter N)) → N → List (Waiter N)
+  waiters_of cmp waiting n = unwrap_or (lookup (is_at (cmp n)) waiting) []
 
   -- what the nodes at two places give where they meet
   abbrev pub MeetAt : (N → N → N → ℕ → Type 0) → List N → ℕ → ℕ → N → Type 0
@@ -75,7 +76,7 @@ pub record Tells {N : Type 0} (Names : Mark N → Type 0) (Due : N → Type 0) (
 
 -- Each row of an awaited node is told where that is marked, and waits for it where it isn't.
 pub record AreParted {N : Type 0} (cmp : N → N → Ordering) (places : BTreeMap N ℕ) (place : ℕ)
-    (IsRow : N → N → ℕ → Type 0) (told told' : List (Mark N)) (waiting waiting' : BTreeMap N (List (Waiter N))) : Type 0
+    (IsRow : N → N → ℕ → Type 0) (told told' : List (Mark N)) (waiting waiting' : List (N × List (Waiter N))) : Type 0
   where
     pub kept : (m : Mark N) → Contains told m → Contains told' m
     pub only : (m : Mark N) → Contains told' m → Contains told m ⊎ ((b : N) × (also : ℕ) × (n : N) × (rule : ℕ)
@@ -99,7 +100,7 @@ pub record Joins {N : Type 0} (Names : Mark N → Type 0) (can : N → Bool) (Du
 -- What the node at a place gives, by itself and with others, is told or waits.
 pub record IsTold {N : Type 0} (gives : N → N → ℕ → Type 0) (awaits meets : N → N → N → ℕ → Type 0)
     (can_seek can_be_sought : N → Bool) (cmp : N → N → Ordering) (Names : Mark N → Type 0) (ns : List N) (place : ℕ)
-    (told : List (Mark N)) (waiting waiting' : BTreeMap N (List (Waiter N))) (seeking seeking' sought sought' : List ℕ)
+    (told : List (Mark N)) (waiting waiting' : List (N × List (Waiter N))) (seeking seeking' sought sought' : List ℕ)
     : Type 0 where
   pub named : All Names told
   pub gave : (a n : N) (rule : ℕ) → slice_get ns place ≡ Some a → gives a n rule → HasNode told n
@@ -122,7 +123,7 @@ pub record IsTold {N : Type 0} (gives : N → N → ℕ → Type 0) (awaits meet
 -- The node at a place was worked on: what it gives is marked, or waits for a node that isn't.
 pub record IsHandled {N : Type 0} (gives : N → N → ℕ → Type 0) (awaits : N → N → N → ℕ → Type 0)
     (can_seek can_be_sought : N → Bool) (cmp : N → N → Ordering) (ns : List N)
-    (waiting : BTreeMap N (List (Waiter N))) (seeking sought : List ℕ) (place : ℕ) (a : N) : Type 0 where
+    (waiting : List (N × List (Waiter N))) (seeking sought : List ℕ) (place : ℕ) (a : N) : Type 0 where
   pub gave : (n : N) (rule : ℕ) → gives a n rule → Contains ns n
   pub waits : (b n : N) (rule : ℕ) → awaits a b n rule
       → Contains ns n ⊎ Contains (waiters_of cmp waiting b) (waiter_of n rule place)
@@ -133,7 +134,7 @@ pub record IsHandled {N : Type 0} (gives : N → N → ℕ → Type 0) (awaits :
 -- The work is under way: each marked place waits for work or was worked on, and those that were met.
 pub record IsUnderWay {N : Type 0} (root : N → Type 0) (gives : N → N → ℕ → Type 0)
     (awaits meets : N → N → N → ℕ → Type 0) (can_seek can_be_sought : N → Bool) (cmp : N → N → Ordering)
-    (ns : List N) (work : List ℕ) (waiting : BTreeMap N (List (Waiter N))) (seeking sought : List ℕ) : Type 0 where
+    (ns : List N) (work : List ℕ) (waiting : List (N × List (Waiter N))) (seeking sought : List ℕ) : Type 0 where
   pub works : All (λ place. place < length ns) work
   pub roots : (n : N) → root n → Contains ns n
   pub handled : (place : ℕ) (a : N) → slice_get ns place ≡ Some a

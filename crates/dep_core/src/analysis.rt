@@ -8,10 +8,12 @@ ghost use Rattle.dep_core.specs.UnderWay.{HasNode, IsNamed, IsSound, IsUnderWay}
 use crate::giving::{Pending, give};
 use crate::mark::{DepFault, Mark, Marked};
 use crate::marking::{Limits, Marking, mark_all};
+use crate::nodes::{Nodes, marks_in_order};
 use crate::pick::Pick;
 use crate::rules::Rules;
 use crate::telling::tell_roots;
-use num_core::{List, Memory};
+use crate::waiting::Waiting;
+use num_core::Memory;
 use std::alloc::Global;
 use std::collections::BTreeMap;
 
@@ -47,24 +49,17 @@ pub fn analyze<R: Rules, P: Pick>(
         max_nodes max_depth) }
 {
     let mut marking = Marking {
-        marks: List::new(alloc),
+        nodes: Nodes::new(alloc),
         places: BTreeMap::new(alloc),
-        work: Vec::new(alloc),
     };
     let limits = Limits {
         nodes: max_nodes,
         depth: max_depth,
     };
-    match run(alloc, rules, pick, limits, &mut marking) {
-        Ok(()) => {
-            let Marking {
-                marks,
-                places: _places,
-                work: _work,
-            } = marking;
-            Ok(marks)
-        }
-        Err(fault) => Err(fault),
+    run(alloc, rules, pick, limits, &mut marking)?;
+    match marks_in_order(alloc, rules, &marking.nodes) {
+        Ok(marks) => Ok(marks),
+        Err(_) => Err(DepFault::Memory),
     }
 }
 
@@ -76,20 +71,20 @@ fn run<R: Rules, P: Pick>(
     limits: Limits,
     marking: &mut Marking<R::Node>,
 ) -> Result<(), DepFault<R::Node>>
-    requires marks { marking.old.marks ≡ [] }
+    requires marks { marking.old.nodes.marks ≡ [] }
     requires places { marking.old.places.entries ≡ [] }
-    requires work { marking.old.work.items ≡ [] }
+    requires work { marking.old.nodes.work ≡ [] }
     ensures sound { OnOk result (IsSound (R.is_root rules.now)
         (row_by (R.gives rules.now) (R.awaits rules.now) (R.meets_in rules.now)) (R.is_own rules.now)
-        (R.depth_of rules.now) R.Node.cmp limits.nodes limits.depth marking.new.marks marking.new.places) }
+        (R.depth_of rules.now) R.Node.cmp limits.nodes limits.depth marking.new.nodes.marks marking.new.places) }
     ensures closed { OnOk result (IsClosed (R.is_root rules.now)
-        (row_by (R.gives rules.now) (R.awaits rules.now) (R.meets_in rules.now)) (nodes_of marking.new.marks)) }
+        (row_by (R.gives rules.now) (R.awaits rules.now) (R.meets_in rules.now)) (nodes_of marking.new.nodes.marks)) }
     ensures fault { IfErr result (IsPassed (R.is_root rules.now)
         (row_by (R.gives rules.now) (R.awaits rules.now) (R.meets_in rules.now)) (R.depth_of rules.now)
         limits.nodes limits.depth) }
 {
     let mut pending = Pending {
-        waiting: BTreeMap::new(alloc),
+        waiting: Waiting::new(alloc),
         seeking: Vec::new(alloc),
         sought: Vec::new(alloc),
     };
@@ -124,36 +119,37 @@ fn settle<R: Rules, P: Pick>(
 ) -> Result<(), DepFault<R::Node>>
     requires sound { IsSound (R.is_root rules.now)
         (row_by (R.gives rules.now) (R.awaits rules.now) (R.meets_in rules.now)) (R.is_own rules.now)
-        (R.depth_of rules.now) R.Node.cmp limits.nodes limits.depth marking.old.marks marking.old.places }
+        (R.depth_of rules.now) R.Node.cmp limits.nodes limits.depth marking.old.nodes.marks marking.old.places }
     requires under_way { IsUnderWay (R.is_root rules.now) (R.gives rules.now) (R.awaits rules.now)
         (R.meets_in rules.now) (R.can_seek rules.now) (R.can_be_sought rules.now) R.Node.cmp
-        (nodes_of marking.old.marks) marking.old.work.items pending.old.waiting pending.old.seeking.items
+        (nodes_of marking.old.nodes.marks) marking.old.nodes.work pending.old.waiting pending.old.seeking.items
         pending.old.sought.items }
     ensures sound { OnOk result (IsSound (R.is_root rules.now)
         (row_by (R.gives rules.now) (R.awaits rules.now) (R.meets_in rules.now)) (R.is_own rules.now)
-        (R.depth_of rules.now) R.Node.cmp limits.nodes limits.depth marking.new.marks marking.new.places) }
+        (R.depth_of rules.now) R.Node.cmp limits.nodes limits.depth marking.new.nodes.marks marking.new.places) }
     ensures closed { OnOk result (IsClosed (R.is_root rules.now)
-        (row_by (R.gives rules.now) (R.awaits rules.now) (R.meets_in rules.now)) (nodes_of marking.new.marks)) }
+        (row_by (R.gives rules.now) (R.awaits rules.now) (R.meets_in rules.now)) (nodes_of marking.new.nodes.marks)) }
     ensures fault { IfErr result (IsPassed (R.is_root rules.now)
         (row_by (R.gives rules.now) (R.awaits rules.now) (R.meets_in rules.now)) (R.depth_of rules.now)
         limits.nodes limits.depth) }
 {
-    while let Some(place) = next(pick, &mut marking.work) {
+    while let Some(place) = next(pick, &mut marking.nodes) {
         handle(alloc, rules, limits, marking, pending, place)?;
     }
     Ok(())
 }
 
 /// Takes the one of the places that wait which is picked.
-fn next<P: Pick>(pick: &mut P, work: &mut Vec<u32>) -> Option<u32>
-    ensures { MatchOption result (work.old.items ≡ [])
-        (λ place. IsPermutation work.old.items (place ∷ work.new.items)) }
+fn next<P: Pick, N: Drop>(pick: &mut P, nodes: &mut Nodes<N>) -> Option<u32>
+    ensures marks { nodes.new.marks ≡ nodes.old.marks }
+    ensures work { MatchOption result (nodes.old.work ≡ [])
+        (λ place. IsPermutation nodes.old.work (place ∷ nodes.new.work)) }
 {
-    if work.is_empty() {
+    let waiting = nodes.waiting();
+    if waiting == 0 {
         return None;
     }
-    let at = picked(pick, work.len());
-    Some(work.swap_remove(at))
+    nodes.take_work(picked(pick, waiting))
 }
 
 /// The number of one of so many nodes that wait.
@@ -175,21 +171,21 @@ fn handle<R: Rules>(
 ) -> Result<(), DepFault<R::Node>>
     requires sound { IsSound (R.is_root rules.now)
         (row_by (R.gives rules.now) (R.awaits rules.now) (R.meets_in rules.now)) (R.is_own rules.now)
-        (R.depth_of rules.now) R.Node.cmp limits.nodes limits.depth marking.old.marks marking.old.places }
+        (R.depth_of rules.now) R.Node.cmp limits.nodes limits.depth marking.old.nodes.marks marking.old.places }
     requires under_way { IsUnderWay (R.is_root rules.now) (R.gives rules.now) (R.awaits rules.now)
         (R.meets_in rules.now) (R.can_seek rules.now) (R.can_be_sought rules.now) R.Node.cmp
-        (nodes_of marking.old.marks) (place ∷ marking.old.work.items) pending.old.waiting pending.old.seeking.items
-        pending.old.sought.items }
+        (nodes_of marking.old.nodes.marks) (place ∷ marking.old.nodes.work) pending.old.waiting
+        pending.old.seeking.items pending.old.sought.items }
     ensures sound { OnOk result (IsSound (R.is_root rules.now)
         (row_by (R.gives rules.now) (R.awaits rules.now) (R.meets_in rules.now)) (R.is_own rules.now)
-        (R.depth_of rules.now) R.Node.cmp limits.nodes limits.depth marking.new.marks marking.new.places) }
+        (R.depth_of rules.now) R.Node.cmp limits.nodes limits.depth marking.new.nodes.marks marking.new.places) }
     ensures under_way { OnOk result (IsUnderWay (R.is_root rules.now) (R.gives rules.now) (R.awaits rules.now)
         (R.meets_in rules.now) (R.can_seek rules.now) (R.can_be_sought rules.now) R.Node.cmp
-        (nodes_of marking.new.marks) marking.new.work.items pending.new.waiting pending.new.seeking.items
+        (nodes_of marking.new.nodes.marks) marking.new.nodes.work pending.new.waiting pending.new.seeking.items
         pending.new.sought.items) }
     // Each node that is marked waits, so one place less is left to be worked on.
-    ensures balance { OnOk result (length (nodes_of marking.new.marks) + length marking.old.work.items
-        ≡ length (nodes_of marking.old.marks) + length marking.new.work.items) }
+    ensures balance { OnOk result (length (nodes_of marking.new.nodes.marks) + length marking.old.nodes.work
+        ≡ length (nodes_of marking.old.nodes.marks) + length marking.new.nodes.work) }
     ensures fault { IfErr result (IsPassed (R.is_root rules.now)
         (row_by (R.gives rules.now) (R.awaits rules.now) (R.meets_in rules.now)) (R.depth_of rules.now)
         limits.nodes limits.depth) }
@@ -197,7 +193,7 @@ fn handle<R: Rules>(
     match give(
         alloc,
         rules,
-        &marking.marks,
+        &marking.nodes,
         &marking.places,
         pending,
         place,

@@ -5,13 +5,14 @@ ghost use Rattle.std.specs.BTreeMap.{get};
 ghost use Rattle.dep_core.specs.Kept.{row_by};
 ghost use Rattle.dep_core.specs.Marks.{nodes_of};
 ghost use Rattle.dep_core.specs.UnderWay.{AreParted, IsNamed, IsTold, IsWaiter, Joins, MeetAt, Tells, waiters_of};
+ghost use Rattle.dep_core.specs.Sides.{can_be_on, MeetOn};
 ghost use Rattle.dep_core.specs.declared.waiting.Waiter.{Waiter as WaiterOf};
 
 use crate::mark::Mark;
-use crate::marking::node_at;
+use crate::nodes::Nodes;
 use crate::rules::{Need, Rules};
-use crate::telling::{tell_needs, tell_waiters};
-use crate::waiting::{Waiter, add_waiter, take_waiters};
+use crate::telling::tell_needs;
+use crate::waiting::{Waiter, Waiting};
 use num_core::{List, Memory};
 use std::alloc::Global;
 use std::collections::BTreeMap;
@@ -19,9 +20,16 @@ use std::collections::BTreeMap;
 /// What was worked on: what waits for nodes that aren't marked, and the places of the nodes that may meet others.
 #[derive(Drop)]
 pub(crate) struct Pending<N: Ord> {
-    pub(crate) waiting: BTreeMap<N, List<Waiter<N>>>,
+    pub(crate) waiting: Waiting<N>,
     pub(crate) seeking: Vec<u32>,
     pub(crate) sought: Vec<u32>,
+}
+
+/// A side of two nodes that meet: the one that seeks, or the one that is sought.
+#[derive(Clone, Copy)]
+pub(crate) enum Side {
+    Seeking,
+    Sought,
 }
 
 /// Tells what the node at a place gives, by itself and with others that are marked, and lets wait for others what it
@@ -29,50 +37,51 @@ pub(crate) struct Pending<N: Ord> {
 pub(crate) fn give<R: Rules>(
     alloc: Global,
     rules: &R,
-    marks: &List<Mark<R::Node>>,
+    nodes: &Nodes<R::Node>,
     places: &BTreeMap<R::Node, u32>,
     pending: &mut Pending<R::Node>,
     place: u32,
 ) -> Result<Vec<Mark<R::Node>>, Memory>
-    requires own { All (R.is_own rules.now) (nodes_of marks.now) }
-    requires place { place < length (nodes_of marks.now) }
+    requires own { All (R.is_own rules.now) (nodes_of nodes.now.marks) }
+    requires place { place < length (nodes_of nodes.now.marks) }
     requires found { (n : R.Node) (p : ℕ) → get R.Node.cmp places.now n ≡ Some p
-        → slice_get (nodes_of marks.now) p ≡ Some n }
-    requires missing { (n : R.Node) → get R.Node.cmp places.now n ≡ None → ¬ Contains (nodes_of marks.now) n }
+        → slice_get (nodes_of nodes.now.marks) p ≡ Some n }
+    requires missing { (n : R.Node) → get R.Node.cmp places.now n ≡ None → ¬ Contains (nodes_of nodes.now.marks) n }
     requires waiters { (b : R.Node) (w : WaiterOf R.Node) → Contains (waiters_of R.Node.cmp pending.old.waiting b) w
-        → IsWaiter (R.awaits rules.now) (nodes_of marks.now) b w }
-    requires seeking { All (λ p. p < length (nodes_of marks.now)) pending.old.seeking.items }
-    requires sought { All (λ p. p < length (nodes_of marks.now)) pending.old.sought.items }
+        → IsWaiter (R.awaits rules.now) (nodes_of nodes.now.marks) b w }
+    requires seeking { All (λ p. p < length (nodes_of nodes.now.marks)) pending.old.seeking.items }
+    requires sought { All (λ p. p < length (nodes_of nodes.now.marks)) pending.old.sought.items }
     ensures { IfOk result (λ told. IsTold (R.gives rules.now) (R.awaits rules.now) (R.meets_in rules.now)
         (R.can_seek rules.now) (R.can_be_sought rules.now) R.Node.cmp
         (IsNamed (R.is_root rules.now) (row_by (R.gives rules.now) (R.awaits rules.now) (R.meets_in rules.now))
-        (nodes_of marks.now)) (nodes_of marks.now) place told.items pending.old.waiting pending.new.waiting
+        (nodes_of nodes.now.marks)) (nodes_of nodes.now.marks) place told.items pending.old.waiting pending.new.waiting
         pending.old.seeking.items pending.new.seeking.items pending.old.sought.items pending.new.sought.items) }
 {
-    let node = node_at(marks, place);
+    let node = nodes.node(place);
     let mut told = Vec::new(alloc);
     let needs = rules.always(alloc, node)?;
     tell_needs(&mut told, needs, place, None)?;
     let rows = rules.awaiting(alloc, node)?;
-    wait_all(alloc, places, place, rows, &mut pending.waiting, &mut told)?;
-    let waiters = take_waiters(alloc, &mut pending.waiting, node);
-    tell_waiters(&mut told, waiters, place)?;
-    seek(
+    wait_all(places, place, rows, &mut pending.waiting, &mut told)?;
+    pending.waiting.tell(node, place, &mut told)?;
+    join(
         alloc,
         rules,
-        marks,
+        nodes,
+        Side::Seeking,
         place,
         &mut pending.seeking,
         pending.sought.as_slice(),
         &mut told,
     )?;
-    be_sought(
+    join(
         alloc,
         rules,
-        marks,
+        nodes,
+        Side::Sought,
         place,
-        pending.seeking.as_slice(),
         &mut pending.sought,
+        pending.seeking.as_slice(),
         &mut told,
     )?;
     Ok(told)
@@ -80,11 +89,10 @@ pub(crate) fn give<R: Rules>(
 
 /// Tells each of some rows where the awaited node is marked, and lets it wait where it isn't.
 fn wait_all<N: Ord + Drop>(
-    alloc: Global,
     places: &BTreeMap<N, u32>,
     place: u32,
     rows: List<(N, Need<N>)>,
-    waiting: &mut BTreeMap<N, List<Waiter<N>>>,
+    waiting: &mut Waiting<N>,
     told: &mut Vec<Mark<N>>,
 ) -> Result<(), Memory>
     requires { (x y : N) → N.cmp x y ≡ Equal → x ≡ y }
@@ -94,19 +102,18 @@ fn wait_all<N: Ord + Drop>(
 {
     let mut left = rows.into_vec();
     while let Some((awaited, need)) = left.pop() {
-        wait_one(alloc, places, place, awaited, need, waiting, told)?;
+        wait_one(places, place, awaited, need, waiting, told)?;
     }
     Ok(())
 }
 
 /// Tells a row where the awaited node is marked, and lets it wait where it isn't.
 fn wait_one<N: Ord + Drop>(
-    alloc: Global,
     places: &BTreeMap<N, u32>,
     place: u32,
     awaited: N,
     need: Need<N>,
-    waiting: &mut BTreeMap<N, List<Waiter<N>>>,
+    waiting: &mut Waiting<N>,
     told: &mut Vec<Mark<N>>,
 ) -> Result<(), Memory>
     requires { (x y : N) → N.cmp x y ≡ Equal → x ≡ y }
@@ -127,133 +134,121 @@ fn wait_one<N: Ord + Drop>(
         }
         None => {
             let from = place;
-            add_waiter(alloc, waiting, awaited, Waiter { node, rule, from })?;
+            waiting.add(awaited, Waiter { node, rule, from })?;
             Ok(())
         }
     }
 }
 
-/// Adds a place to those that seek, where its node does, and tells what it gives with each that is sought.
-fn seek<R: Rules>(
+/// Adds a place to those of a side, where its node can be on that side, and tells what it gives with each of the other.
+fn join<R: Rules>(
     alloc: Global,
     rules: &R,
-    marks: &List<Mark<R::Node>>,
+    nodes: &Nodes<R::Node>,
+    side: Side,
     place: u32,
-    seeking: &mut Vec<u32>,
-    sought: &[u32],
+    those: &mut Vec<u32>,
+    others: &[u32],
     told: &mut Vec<Mark<R::Node>>,
 ) -> Result<(), Memory>
-    requires own { All (R.is_own rules.now) (nodes_of marks.now) }
-    requires place { place < length (nodes_of marks.now) }
-    requires sought { All (λ q. q < length (nodes_of marks.now)) sought.now }
+    requires own { All (R.is_own rules.now) (nodes_of nodes.now.marks) }
+    requires place { place < length (nodes_of nodes.now.marks) }
+    requires others { All (λ q. q < length (nodes_of nodes.now.marks)) others.now }
     ensures { OnOk result (Joins
         (IsNamed (R.is_root rules.now) (row_by (R.gives rules.now) (R.awaits rules.now) (R.meets_in rules.now))
-        (nodes_of marks.now)) (R.can_seek rules.now)
-        (λ n. (q : ℕ) × Contains sought.now q × MeetAt (R.meets_in rules.now) (nodes_of marks.now) place q n)
-        (nodes_of marks.now) place told.old.items told.new.items seeking.old.items seeking.new.items) }
+        (nodes_of nodes.now.marks)) (can_be_on side (R.can_seek rules.now) (R.can_be_sought rules.now))
+        (λ n. (q : ℕ) × Contains others.now q
+        × MeetOn side (R.meets_in rules.now) (nodes_of nodes.now.marks) place q n)
+        (nodes_of nodes.now.marks) place told.old.items told.new.items those.old.items those.new.items) }
 {
-    if !rules.seeks(node_at(marks, place)) {
+    if !can_be_on(rules, side, nodes.node(place)) {
         return Ok(());
     }
-    meet_sought(alloc, rules, marks, place, sought, told)?;
-    seeking.push(place)?;
+    meet_all(alloc, rules, nodes, side, place, others, told)?;
+    those.push(place)?;
     Ok(())
 }
 
-/// Adds a place to those that are sought, where its node is, and tells what it gives with each that seeks.
-fn be_sought<R: Rules>(
-    alloc: Global,
-    rules: &R,
-    marks: &List<Mark<R::Node>>,
-    place: u32,
-    seeking: &[u32],
-    sought: &mut Vec<u32>,
-    told: &mut Vec<Mark<R::Node>>,
-) -> Result<(), Memory>
-    requires own { All (R.is_own rules.now) (nodes_of marks.now) }
-    requires place { place < length (nodes_of marks.now) }
-    requires seeking { All (λ p. p < length (nodes_of marks.now)) seeking.now }
-    ensures { OnOk result (Joins
-        (IsNamed (R.is_root rules.now) (row_by (R.gives rules.now) (R.awaits rules.now) (R.meets_in rules.now))
-        (nodes_of marks.now)) (R.can_be_sought rules.now)
-        (λ n. (p : ℕ) × Contains seeking.now p × MeetAt (R.meets_in rules.now) (nodes_of marks.now) p place n)
-        (nodes_of marks.now) place told.old.items told.new.items sought.old.items sought.new.items) }
+/// Whether a node may be on this side of two that meet.
+fn can_be_on<R: Rules>(rules: &R, side: Side, node: &R::Node) -> bool
+    requires { R.is_own rules.now node.now }
+    ensures { result ≡ can_be_on side (R.can_seek rules.now) (R.can_be_sought rules.now) node.now }
 {
-    if !rules.is_sought(node_at(marks, place)) {
-        return Ok(());
+    match side {
+        Side::Seeking => rules.seeks(node),
+        Side::Sought => rules.is_sought(node),
     }
-    meet_seeking(alloc, rules, marks, place, seeking, told)?;
-    sought.push(place)?;
-    Ok(())
 }
 
-/// Tells what the node at a place gives with each that is sought.
-fn meet_sought<R: Rules>(
+/// Tells what the node at a place on this side gives with each on the other.
+fn meet_all<R: Rules>(
     alloc: Global,
     rules: &R,
-    marks: &List<Mark<R::Node>>,
+    nodes: &Nodes<R::Node>,
+    side: Side,
     place: u32,
-    sought: &[u32],
+    others: &[u32],
     told: &mut Vec<Mark<R::Node>>,
 ) -> Result<(), Memory>
-    requires own { All (R.is_own rules.now) (nodes_of marks.now) }
-    requires place { place < length (nodes_of marks.now) }
-    requires sought { All (λ q. q < length (nodes_of marks.now)) sought.now }
+    requires own { All (R.is_own rules.now) (nodes_of nodes.now.marks) }
+    requires place { place < length (nodes_of nodes.now.marks) }
+    requires others { All (λ q. q < length (nodes_of nodes.now.marks)) others.now }
     ensures { OnOk result (Tells
         (IsNamed (R.is_root rules.now) (row_by (R.gives rules.now) (R.awaits rules.now) (R.meets_in rules.now))
-        (nodes_of marks.now))
-        (λ n. (q : ℕ) × Contains sought.now q × MeetAt (R.meets_in rules.now) (nodes_of marks.now) place q n)
+        (nodes_of nodes.now.marks))
+        (λ n. (q : ℕ) × Contains others.now q
+        × MeetOn side (R.meets_in rules.now) (nodes_of nodes.now.marks) place q n)
         told.old.items told.new.items) }
 {
-    for other in sought {
-        meet(alloc, rules, marks, place, *other, told)?;
+    for other in others {
+        meet_on(alloc, rules, nodes, side, place, *other, told)?;
     }
     Ok(())
 }
 
-/// Tells what the node at a place gives with each that seeks.
-fn meet_seeking<R: Rules>(
+/// Tells what the node at a place on this side gives with one on the other.
+fn meet_on<R: Rules>(
     alloc: Global,
     rules: &R,
-    marks: &List<Mark<R::Node>>,
+    nodes: &Nodes<R::Node>,
+    side: Side,
     place: u32,
-    seeking: &[u32],
+    other: u32,
     told: &mut Vec<Mark<R::Node>>,
 ) -> Result<(), Memory>
-    requires own { All (R.is_own rules.now) (nodes_of marks.now) }
-    requires place { place < length (nodes_of marks.now) }
-    requires seeking { All (λ p. p < length (nodes_of marks.now)) seeking.now }
+    requires own { All (R.is_own rules.now) (nodes_of nodes.now.marks) }
+    requires place { place < length (nodes_of nodes.now.marks) }
+    requires other { other < length (nodes_of nodes.now.marks) }
     ensures { OnOk result (Tells
         (IsNamed (R.is_root rules.now) (row_by (R.gives rules.now) (R.awaits rules.now) (R.meets_in rules.now))
-        (nodes_of marks.now))
-        (λ n. (p : ℕ) × Contains seeking.now p × MeetAt (R.meets_in rules.now) (nodes_of marks.now) p place n)
+        (nodes_of nodes.now.marks)) (MeetOn side (R.meets_in rules.now) (nodes_of nodes.now.marks) place other)
         told.old.items told.new.items) }
 {
-    for other in seeking {
-        meet(alloc, rules, marks, *other, place, told)?;
+    match side {
+        Side::Seeking => meet(alloc, rules, nodes, place, other, told),
+        Side::Sought => meet(alloc, rules, nodes, other, place, told),
     }
-    Ok(())
 }
 
 /// Tells what the nodes at two places give where they meet.
 fn meet<R: Rules>(
     alloc: Global,
     rules: &R,
-    marks: &List<Mark<R::Node>>,
+    nodes: &Nodes<R::Node>,
     from: u32,
     also: u32,
     told: &mut Vec<Mark<R::Node>>,
 ) -> Result<(), Memory>
-    requires own { All (R.is_own rules.now) (nodes_of marks.now) }
-    requires from { from < length (nodes_of marks.now) }
-    requires also { also < length (nodes_of marks.now) }
+    requires own { All (R.is_own rules.now) (nodes_of nodes.now.marks) }
+    requires from { from < length (nodes_of nodes.now.marks) }
+    requires also { also < length (nodes_of nodes.now.marks) }
     ensures { OnOk result (Tells
         (IsNamed (R.is_root rules.now) (row_by (R.gives rules.now) (R.awaits rules.now) (R.meets_in rules.now))
-        (nodes_of marks.now)) (MeetAt (R.meets_in rules.now) (nodes_of marks.now) from also)
+        (nodes_of nodes.now.marks)) (MeetAt (R.meets_in rules.now) (nodes_of nodes.now.marks) from also)
         told.old.items told.new.items) }
 {
-    let a = node_at(marks, from);
-    let b = node_at(marks, also);
+    let a = nodes.node(from);
+    let b = nodes.node(also);
     let needs = rules.meets(alloc, a, b)?;
     tell_needs(told, needs, from, Some(also))
 }

@@ -6,6 +6,7 @@ mod giving;
 pub mod laws;
 mod mark;
 mod marking;
+mod nodes;
 mod pick;
 mod rules;
 mod telling;

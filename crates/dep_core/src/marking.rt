@@ -1,13 +1,14 @@
 //! The marks so far.
-ghost use Rattle.std.specs.Prelude.{◌≡◌, ◌<◌, ◌^◌, [], ◌∷◌, ◌++◌, All, Contains, length, slice_get, Some, OnOk, IfErr};
+ghost use Rattle.std.specs.Prelude.{◌≡◌, ◌<◌, ◌^◌, [], ◌∷◌, ◌++◌, All, Contains, length, Some, OnOk, IfErr};
 ghost use Rattle.std.specs.BTreeMap.{Updates};
 ghost use Rattle.dep_core.specs.Kept.{row_by};
 ghost use Rattle.dep_core.specs.Marks.{nodes_of, IsPassed};
 ghost use Rattle.dep_core.specs.UnderWay.{AreMarked, IsNamed, IsSound};
 
 use crate::mark::{DepFault, Mark};
+use crate::nodes::Nodes;
 use crate::rules::Rules;
-use num_core::{List, Memory};
+use num_core::Memory;
 use std::alloc::Global;
 use std::collections::BTreeMap;
 
@@ -18,20 +19,11 @@ pub(crate) struct Limits {
     pub(crate) depth: u32,
 }
 
-/// The marks so far, the place of each marked node, and the places that wait for work.
+/// The marked nodes, and the place of each.
 #[derive(Drop)]
 pub(crate) struct Marking<N: Ord> {
-    pub(crate) marks: List<Mark<N>>,
+    pub(crate) nodes: Nodes<N>,
     pub(crate) places: BTreeMap<N, u32>,
-    pub(crate) work: Vec<u32>,
-}
-
-/// The marked node at a place.
-pub(crate) fn node_at<N>(marks: &List<Mark<N>>, place: u32) -> &N
-    requires { place < length (nodes_of marks.now) }
-    ensures { slice_get (nodes_of marks.now) place ≡ Some result.now }
-{
-    &marks.as_slice()[place as usize].node
 }
 
 /// Marks what was told, in some order, where it isn't marked yet.
@@ -44,14 +36,14 @@ pub(crate) fn mark_all<R: Rules>(
 ) -> Result<(), DepFault<R::Node>>
     requires sound { IsSound (R.is_root rules.now)
         (row_by (R.gives rules.now) (R.awaits rules.now) (R.meets_in rules.now)) (R.is_own rules.now)
-        (R.depth_of rules.now) R.Node.cmp limits.nodes limits.depth marking.old.marks marking.old.places }
+        (R.depth_of rules.now) R.Node.cmp limits.nodes limits.depth marking.old.nodes.marks marking.old.places }
     requires named { All (IsNamed (R.is_root rules.now)
-        (row_by (R.gives rules.now) (R.awaits rules.now) (R.meets_in rules.now)) (nodes_of marking.old.marks))
+        (row_by (R.gives rules.now) (R.awaits rules.now) (R.meets_in rules.now)) (nodes_of marking.old.nodes.marks))
         told.items }
     ensures marked { OnOk result (AreMarked (R.is_root rules.now)
         (row_by (R.gives rules.now) (R.awaits rules.now) (R.meets_in rules.now)) (R.is_own rules.now)
-        (R.depth_of rules.now) R.Node.cmp limits.nodes limits.depth told.items marking.old.marks marking.new.marks
-        marking.new.places marking.old.work.items marking.new.work.items) }
+        (R.depth_of rules.now) R.Node.cmp limits.nodes limits.depth told.items marking.old.nodes.marks
+        marking.new.nodes.marks marking.new.places marking.old.nodes.work marking.new.nodes.work) }
     ensures fault { IfErr result (IsPassed (R.is_root rules.now)
         (row_by (R.gives rules.now) (R.awaits rules.now) (R.meets_in rules.now)) (R.depth_of rules.now)
         limits.nodes limits.depth) }
@@ -72,13 +64,14 @@ fn mark_one<R: Rules>(
 ) -> Result<(), DepFault<R::Node>>
     requires sound { IsSound (R.is_root rules.now)
         (row_by (R.gives rules.now) (R.awaits rules.now) (R.meets_in rules.now)) (R.is_own rules.now)
-        (R.depth_of rules.now) R.Node.cmp limits.nodes limits.depth marking.old.marks marking.old.places }
+        (R.depth_of rules.now) R.Node.cmp limits.nodes limits.depth marking.old.nodes.marks marking.old.places }
     requires named { IsNamed (R.is_root rules.now)
-        (row_by (R.gives rules.now) (R.awaits rules.now) (R.meets_in rules.now)) (nodes_of marking.old.marks) mark }
+        (row_by (R.gives rules.now) (R.awaits rules.now) (R.meets_in rules.now)) (nodes_of marking.old.nodes.marks)
+        mark }
     ensures marked { OnOk result (AreMarked (R.is_root rules.now)
         (row_by (R.gives rules.now) (R.awaits rules.now) (R.meets_in rules.now)) (R.is_own rules.now)
-        (R.depth_of rules.now) R.Node.cmp limits.nodes limits.depth (mark ∷ []) marking.old.marks marking.new.marks
-        marking.new.places marking.old.work.items marking.new.work.items) }
+        (R.depth_of rules.now) R.Node.cmp limits.nodes limits.depth (mark ∷ []) marking.old.nodes.marks
+        marking.new.nodes.marks marking.new.places marking.old.nodes.work marking.new.nodes.work) }
     ensures fault { IfErr result (IsPassed (R.is_root rules.now)
         (row_by (R.gives rules.now) (R.awaits rules.now) (R.meets_in rules.now)) (R.depth_of rules.now)
         limits.nodes limits.depth) }
@@ -99,14 +92,15 @@ fn add<R: Rules>(
 ) -> Result<(), DepFault<R::Node>>
     requires sound { IsSound (R.is_root rules.now)
         (row_by (R.gives rules.now) (R.awaits rules.now) (R.meets_in rules.now)) (R.is_own rules.now)
-        (R.depth_of rules.now) R.Node.cmp limits.nodes limits.depth marking.old.marks marking.old.places }
+        (R.depth_of rules.now) R.Node.cmp limits.nodes limits.depth marking.old.nodes.marks marking.old.places }
     requires named { IsNamed (R.is_root rules.now)
-        (row_by (R.gives rules.now) (R.awaits rules.now) (R.meets_in rules.now)) (nodes_of marking.old.marks) mark }
-    requires unmarked { ¬ Contains (nodes_of marking.old.marks) mark.node }
+        (row_by (R.gives rules.now) (R.awaits rules.now) (R.meets_in rules.now)) (nodes_of marking.old.nodes.marks)
+        mark }
+    requires unmarked { ¬ Contains (nodes_of marking.old.nodes.marks) mark.node }
     ensures marked { OnOk result (AreMarked (R.is_root rules.now)
         (row_by (R.gives rules.now) (R.awaits rules.now) (R.meets_in rules.now)) (R.is_own rules.now)
-        (R.depth_of rules.now) R.Node.cmp limits.nodes limits.depth (mark ∷ []) marking.old.marks marking.new.marks
-        marking.new.places marking.old.work.items marking.new.work.items) }
+        (R.depth_of rules.now) R.Node.cmp limits.nodes limits.depth (mark ∷ []) marking.old.nodes.marks
+        marking.new.nodes.marks marking.new.places marking.old.nodes.work marking.new.nodes.work) }
     ensures fault { IfErr result (IsPassed (R.is_root rules.now)
         (row_by (R.gives rules.now) (R.awaits rules.now) (R.meets_in rules.now)) (R.depth_of rules.now)
         limits.nodes limits.depth) }
@@ -120,7 +114,7 @@ fn add<R: Rules>(
         } = mark;
         return Err(DepFault::DepthLimit(node));
     }
-    if limits.nodes as usize <= marking.marks.len() {
+    if limits.nodes as usize <= marking.nodes.len() {
         return Err(DepFault::NodeLimit(limits.nodes as u64 + 1));
     }
     match append(alloc, rules, marking, mark) {
@@ -136,17 +130,16 @@ fn append<R: Rules>(
     marking: &mut Marking<R::Node>,
     mark: Mark<R::Node>,
 ) -> Result<(), Memory>
-    requires few { length marking.old.marks < 2 ^ 32 }
+    requires few { length marking.old.nodes.marks < 2 ^ 32 }
     requires own { R.is_own rules.now mark.node }
-    ensures marks { OnOk result (marking.new.marks ≡ marking.old.marks ++ mark ∷ []) }
+    ensures marks { OnOk result (marking.new.nodes.marks ≡ marking.old.nodes.marks ++ mark ∷ []) }
     ensures places { OnOk result (Updates R.Node.cmp marking.old.places marking.new.places mark.node
-        (Some (length marking.old.marks))) }
-    ensures work { OnOk result (marking.new.work.items ≡ marking.old.work.items ++ length marking.old.marks ∷ []) }
+        (Some (length marking.old.nodes.marks))) }
+    ensures work { OnOk result
+        (marking.new.nodes.work ≡ marking.old.nodes.work ++ length marking.old.nodes.marks ∷ []) }
 {
-    let place = marking.marks.len() as u32;
+    let place = marking.nodes.len() as u32;
     let node = rules.copy(alloc, &mark.node)?;
     marking.places.insert(node, place)?;
-    marking.marks.push(mark).map_err(|_| Memory)?;
-    marking.work.push(place)?;
-    Ok(())
+    marking.nodes.push(mark)
 }

@@ -1,10 +1,9 @@
-//! Marks that are told from needs, from waiters and from roots.
-ghost use Rattle.std.specs.Prelude.{◌≡◌, Some, None, OnOk};
+//! Marks that are told from needs and from roots.
+ghost use Rattle.std.specs.Prelude.{Some, None, OnOk};
 ghost use Rattle.dep_core.specs.UnderWay.{AreTold, mark_of};
 
 use crate::mark::Mark;
 use crate::rules::Need;
-use crate::waiting::Waiter;
 use num_core::{List, Memory};
 
 /// Tells a mark for each root.
@@ -42,28 +41,6 @@ pub(crate) fn tell_needs<N: Drop>(
             rule,
             from: Some(from),
             also,
-        })?;
-    }
-    Ok(())
-}
-
-/// Tells a mark for each of what waited for the node at a place.
-pub(crate) fn tell_waiters<N: Drop>(
-    told: &mut Vec<Mark<N>>,
-    waiters: List<Waiter<N>>,
-    also: u32,
-) -> Result<(), Memory>
-    ensures { OnOk result (AreTold (λ waiter. mark_of waiter.node waiter.rule (Some waiter.from) (Some also))
-        waiters told.old.items told.new.items) }
-{
-    let mut left = waiters.into_vec();
-    while let Some(waiter) = left.pop() {
-        let Waiter { node, rule, from } = waiter;
-        told.push(Mark {
-            node,
-            rule,
-            from: Some(from),
-            also: Some(also),
         })?;
     }
     Ok(())

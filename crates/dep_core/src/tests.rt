@@ -5,6 +5,7 @@ use num_core::{List, Memory};
 use std::alloc::Global;
 use std::cell::Cell;
 use std::test::Fail;
+use std::time::Instant;
 
 #[derive(Drop)]
 enum Order {
@@ -353,10 +354,12 @@ fn number_nodes(alloc: Global, order: Order) -> Result<(Vec<u32>, u32, u32, u32)
 #[test]
 fn numbers_are_the_same_in_any_order(rt: HostRuntime) -> Result<(), Fail> {
     let expected = [1, 2, 3, 4, 6, 8, 12, 16, 24, 32, 48, 64, 96, 128, 192];
-    let (first, ..) = number_nodes(rt.alloc(), Order::First)?;
+    let (first, always, awaiting, meets) = number_nodes(rt.alloc(), Order::First)?;
     assert_eq!(rt; first.as_slice(), expected.as_slice());
-    let (last, ..) = number_nodes(rt.alloc(), Order::Last)?;
+    assert_eq!(rt; (always, awaiting, meets), (15, 15, 0));
+    let (last, always, awaiting, meets) = number_nodes(rt.alloc(), Order::Last)?;
     assert_eq!(rt; last.as_slice(), expected.as_slice());
+    assert_eq!(rt; (always, awaiting, meets), (15, 15, 0));
     let (rising, always, awaiting, meets) = number_nodes(rt.alloc(), Order::Rising(0))?;
     assert_eq!(rt; rising.as_slice(), expected.as_slice());
     assert_eq!(rt; (always, awaiting, meets), (15, 15, 0));
@@ -494,7 +497,10 @@ impl Rules for Steps {
 #[test]
 fn two_hundred_thousand_nodes(rt: HostRuntime) -> Result<(), Fail> {
     let steps = Steps { below: 199_999 };
+    let start = Instant::now(&rt)?;
     let marks = analyze(rt.alloc(), &steps, &mut Order::Last, 200_000, 0)?;
+    let time = start.elapsed(&rt)?;
+    println!(rt; "200000 nodes in {} milliseconds", time.as_millis())?;
     assert_eq!(rt; marks.len(), 200_000);
     Ok(())
 }

@@ -1,5 +1,7 @@
-use Rattle.dep_core.specs.Kept.{row_by}
+use Rattle.std.proofs.Common.{subst, sym}
+use Rattle.dep_core.specs.Kept.{IsClosed, row_by}
 use Rattle.dep_core.specs.Marks.{nodes_of}
+use Rattle.dep_core.specs.UnderWay.{IsSound}
 use Rattle.dep_core.proofs.Deriving.{holds}
 use Rattle.dep_core.proofs.MarkedNodes.{derives, none_passed}
 use Rattle.dep_core.proofs.analysis.analyze.Goals as goal
@@ -9,10 +11,11 @@ returns-in-Ok g c =
     let rules = c.args.rules.now in
     let root = g.R.Rules.is_root rules in
     let row = row_by (g.R.Rules.gives rules) (g.R.Rules.awaits rules) (g.R.Rules.meets_in rules) in
-    let marks = c.run.new.marking.marks in
+    let marks = c.in-Ok.marks in
     let ns = nodes_of marks in
-    let sound = c.in-Ok.ensures.sound in
-    let closed = c.in-Ok.ensures.closed in
+    let sound = subst (λ ms. IsSound root row (g.R.Rules.is_own rules) (g.R.Rules.depth_of rules) g.R.Node.Ord.cmp
+    c.args.max_nodes c.args.max_depth ms c.run.new.marking.places) (sym c.in-Ok.ensures) c.in_ok-run.ensures.sound in
+    let closed = subst (λ ms. IsClosed root row (nodes_of ms)) (sym c.in-Ok.ensures) c.in_ok-run.ensures.closed in
     record {
       named = sound.are;
       derivation = derives root row marks sound.are;

@@ -9,7 +9,7 @@ use Rattle.dep_core.proofs.analysis.handle.Goals as goal
 
 pub give-requires-clause-place : goal.give-requires-clause-place
 give-requires-clause-place g c =
-    All-head (λ p. p < length (nodes_of c.args.marking.now.marks)) c.args.place c.args.marking.now.work.items
+    All-head (λ p. p < length (nodes_of c.args.marking.now.nodes.marks)) c.args.place c.args.marking.now.nodes.work
     c.requires.under_way.works
 
 pub returns-in-Ok-clause-under_way : goal.returns-in-Ok-clause-under_way
@@ -21,9 +21,9 @@ returns-in-Ok-clause-under_way g c =
     (g.R.Rules.can_seek rules) (g.R.Rules.can_be_sought rules) g.R.Node.Ord.cmp
     (IsNamed (g.R.Rules.is_root rules)
     (row_by (g.R.Rules.gives rules) (g.R.Rules.awaits rules) (g.R.Rules.meets_in rules))
-    (nodes_of c.args.marking.now.marks))
-    (nodes_of c.args.marking.now.marks) (nodes_of c.mark_all.new.marking.marks) c.args.place
-    c.args.marking.now.work.items c.mark_all.new.marking.work.items c.in-Ok.told.items c.args.pending.now.waiting
+    (nodes_of c.args.marking.now.nodes.marks))
+    (nodes_of c.args.marking.now.nodes.marks) (nodes_of c.mark_all.new.marking.nodes.marks) c.args.place
+    c.args.marking.now.nodes.work c.mark_all.new.marking.nodes.work c.in-Ok.told.items c.args.pending.now.waiting
     c.give.new.pending.waiting c.args.pending.now.seeking.items c.give.new.pending.seeking.items
     c.args.pending.now.sought.items c.give.new.pending.sought.items c.requires.under_way c.in-Ok.ensures m.grows m.told)
     c.mark_all.ensures.marked

@@ -8,8 +8,8 @@ returns-in_ok-push-in-Some g c =
     c.in-Some.also.now c.args.told.now.items c.push.new.self.items c.args.waiting.now (sym c.in-Some.ensures.value)
     (search rules)
 
-pub returns-in_ok-add_waiter-in-None : goal.returns-in_ok-add_waiter-in-None
-returns-in_ok-add_waiter-in-None g c =
+pub returns-in_ok-add-in-None : goal.returns-in_ok-add-in-None
+returns-in_ok-add-in-None g c =
     parted_waits g.N.Ord.cmp c.args.places.now c.args.place c.requires c.args.awaited c.args.need.node c.args.need.rule
-    c.args.told.now.items c.args.waiting.now c.add_waiter.new.waiting (sym c.in-None.ensures.value)
-    c.in_ok-add_waiter-in-None.ensures.here c.in_ok-add_waiter-in-None.ensures.there
+    c.args.told.now.items c.args.waiting.now c.add.new.self (sym c.in-None.ensures.value)
+    c.in_ok-add-in-None.ensures.here c.in_ok-add-in-None.ensures.there

@@ -9,7 +9,7 @@ depth-requires g c =
     let rules = c.args.rules.now in
     named_own (g.R.Rules.is_root rules) (g.R.Rules.is_own rules) (g.R.Rules.gives rules) (g.R.Rules.awaits rules)
     (g.R.Rules.meets_in rules) (g.met.R.Rules.own_roots rules) (g.met.R.Rules.own_gives rules)
-    (g.met.R.Rules.own_awaits rules) (g.met.R.Rules.own_meets rules) (nodes_of c.args.marking.now.marks)
+    (g.met.R.Rules.own_awaits rules) (g.met.R.Rules.own_meets rules) (nodes_of c.args.marking.now.nodes.marks)
     c.requires.sound.own c.args.mark.node c.args.mark.rule c.args.mark.from c.args.mark.also c.requires.named
 
 pub append-requires-clause-own : goal.append-requires-clause-own
@@ -17,7 +17,7 @@ append-requires-clause-own g c =
     let rules = c.args.rules.now in
     named_own (g.R.Rules.is_root rules) (g.R.Rules.is_own rules) (g.R.Rules.gives rules) (g.R.Rules.awaits rules)
     (g.R.Rules.meets_in rules) (g.met.R.Rules.own_roots rules) (g.met.R.Rules.own_gives rules)
-    (g.met.R.Rules.own_awaits rules) (g.met.R.Rules.own_meets rules) (nodes_of c.args.marking.now.marks)
+    (g.met.R.Rules.own_awaits rules) (g.met.R.Rules.own_meets rules) (nodes_of c.args.marking.now.nodes.marks)
     c.requires.sound.own c.args.mark.node c.args.mark.rule c.args.mark.from c.args.mark.also c.requires.named
 
 pub returns-then-limits-depth-clause-fault : goal.returns-then-limits-depth-clause-fault
@@ -25,7 +25,7 @@ returns-then-limits-depth-clause-fault g c =
     let rules = c.args.rules.now in
     depth_passes (g.R.Rules.is_root rules)
     (row_by (g.R.Rules.gives rules) (g.R.Rules.awaits rules) (g.R.Rules.meets_in rules)) (g.R.Rules.is_own rules)
-    (g.R.Rules.depth_of rules) g.R.Node.Ord.cmp c.args.limits.nodes c.args.limits.depth c.args.marking.now.marks
+    (g.R.Rules.depth_of rules) g.R.Node.Ord.cmp c.args.limits.nodes c.args.limits.depth c.args.marking.now.nodes.marks
     c.args.marking.now.places c.args.mark c.requires.sound c.requires.named c.requires.unmarked
     (omega (arith, c.depth.ensures))
 
@@ -35,7 +35,8 @@ returns-then-limits-len-clause-fault g c =
       refl,
       nodes_pass (g.R.Rules.is_root rules)
           (row_by (g.R.Rules.gives rules) (g.R.Rules.awaits rules) (g.R.Rules.meets_in rules)) (g.R.Rules.is_own rules)
-          (g.R.Rules.depth_of rules) g.R.Node.Ord.cmp c.args.limits.nodes c.args.limits.depth c.args.marking.now.marks
+          (g.R.Rules.depth_of rules) g.R.Node.Ord.cmp c.args.limits.nodes c.args.limits.depth
+          c.args.marking.now.nodes.marks
           c.args.marking.now.places c.args.mark c.requires.sound c.requires.named c.requires.unmarked
           (omega (arith, c.depth.ensures)) (omega (arith, c.len.ensures)),
     )
@@ -45,12 +46,13 @@ returns-in-Ok-clause-marked g c =
     let rules = c.args.rules.now in
     marked_push (g.R.Rules.is_root rules)
     (row_by (g.R.Rules.gives rules) (g.R.Rules.awaits rules) (g.R.Rules.meets_in rules)) (g.R.Rules.is_own rules)
-    (g.R.Rules.depth_of rules) g.R.Node.Ord.cmp c.args.limits.nodes c.args.limits.depth c.args.marking.now.marks
-    c.args.marking.now.places c.append.new.marking.places c.args.mark c.args.marking.now.work.items
+    (g.R.Rules.depth_of rules) g.R.Node.Ord.cmp c.args.limits.nodes c.args.limits.depth c.args.marking.now.nodes.marks
+    c.args.marking.now.places c.append.new.marking.places c.args.mark c.args.marking.now.nodes.work
     g.met.R.Node.Ord.total g.met.R.Rules.one_node c.requires.sound c.requires.named c.requires.unmarked
     (named_own (g.R.Rules.is_root rules) (g.R.Rules.is_own rules) (g.R.Rules.gives rules) (g.R.Rules.awaits rules)
     (g.R.Rules.meets_in rules) (g.met.R.Rules.own_roots rules) (g.met.R.Rules.own_gives rules)
-    (g.met.R.Rules.own_awaits rules) (g.met.R.Rules.own_meets rules) (nodes_of c.args.marking.now.marks)
+    (g.met.R.Rules.own_awaits rules) (g.met.R.Rules.own_meets rules) (nodes_of c.args.marking.now.nodes.marks)
     c.requires.sound.own c.args.mark.node c.args.mark.rule c.args.mark.from c.args.mark.also c.requires.named)
-    (omega (arith, c.depth.ensures)) (omega (arith, c.len.ensures)) c.in-Ok.ensures.places c.append.new.marking.marks
-    c.in-Ok.ensures.marks c.append.new.marking.work.items c.in-Ok.ensures.work
+    (omega (arith, c.depth.ensures)) (omega (arith, c.len.ensures)) c.in-Ok.ensures.places
+    c.append.new.marking.nodes.marks
+    c.in-Ok.ensures.marks c.append.new.marking.nodes.work c.in-Ok.ensures.work

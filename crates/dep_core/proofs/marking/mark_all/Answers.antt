@@ -9,7 +9,8 @@ loop-mark-init g c =
     marking_none (g.R.Rules.is_root rules)
     (row_by (g.R.Rules.gives rules) (g.R.Rules.awaits rules) (g.R.Rules.meets_in rules)) (g.R.Rules.is_own rules)
     (g.R.Rules.depth_of rules) g.R.Node.Ord.cmp c.args.limits.nodes c.args.limits.depth c.args.told.items
-    c.args.marking.now.marks c.args.marking.now.places c.args.marking.now.work.items c.requires.sound c.requires.named
+    c.args.marking.now.nodes.marks c.args.marking.now.places c.args.marking.now.nodes.work c.requires.sound
+    c.requires.named
 
 pub mark_one-requires-clause-named : goal.mark_one-requires-clause-named
 mark_one-requires-clause-named g c =
@@ -17,8 +18,9 @@ mark_one-requires-clause-named g c =
     marking_named (g.R.Rules.is_root rules)
     (row_by (g.R.Rules.gives rules) (g.R.Rules.awaits rules) (g.R.Rules.meets_in rules)) (g.R.Rules.is_own rules)
     (g.R.Rules.depth_of rules) g.R.Node.Ord.cmp c.args.limits.nodes c.args.limits.depth c.args.told.items
-    c.loop-mark.told.items c.pop.new.self.items c.in-Some.mark c.args.marking.now.marks c.loop-mark.marking.marks
-    c.loop-mark.marking.places c.args.marking.now.work.items c.loop-mark.marking.work.items c.in-Some.ensures.items
+    c.loop-mark.told.items c.pop.new.self.items c.in-Some.mark c.args.marking.now.nodes.marks
+    c.loop-mark.marking.nodes.marks
+    c.loop-mark.marking.places c.args.marking.now.nodes.work c.loop-mark.marking.nodes.work c.in-Some.ensures.items
     c.loop-mark.invariant
 
 pub loop-mark-preserved : goal.loop-mark-preserved
@@ -27,9 +29,11 @@ loop-mark-preserved g c =
     marking_more (g.R.Rules.is_root rules)
     (row_by (g.R.Rules.gives rules) (g.R.Rules.awaits rules) (g.R.Rules.meets_in rules)) (g.R.Rules.is_own rules)
     (g.R.Rules.depth_of rules) g.R.Node.Ord.cmp c.args.limits.nodes c.args.limits.depth c.args.told.items
-    c.loop-mark.told.items c.pop.new.self.items c.in-Some.mark c.args.marking.now.marks c.loop-mark.marking.marks
-    c.mark_one.new.marking.marks c.loop-mark.marking.places c.mark_one.new.marking.places c.args.marking.now.work.items
-    c.loop-mark.marking.work.items c.mark_one.new.marking.work.items c.in-Some.ensures.items c.loop-mark.invariant
+    c.loop-mark.told.items c.pop.new.self.items c.in-Some.mark c.args.marking.now.nodes.marks
+    c.loop-mark.marking.nodes.marks
+    c.mark_one.new.marking.nodes.marks c.loop-mark.marking.places c.mark_one.new.marking.places
+    c.args.marking.now.nodes.work
+    c.loop-mark.marking.nodes.work c.mark_one.new.marking.nodes.work c.in-Some.ensures.items c.loop-mark.invariant
     c.in_ok-mark_one.ensures.marked
 
 pub returns-clause-marked : goal.returns-clause-marked
@@ -38,6 +42,6 @@ returns-clause-marked g c =
     marking_all (g.R.Rules.is_root rules)
     (row_by (g.R.Rules.gives rules) (g.R.Rules.awaits rules) (g.R.Rules.meets_in rules)) (g.R.Rules.is_own rules)
     (g.R.Rules.depth_of rules) g.R.Node.Ord.cmp c.args.limits.nodes c.args.limits.depth c.args.told.items
-    c.loop-mark.told.items c.args.marking.now.marks c.loop-mark.marking.marks c.loop-mark.marking.places
-    c.args.marking.now.work.items c.loop-mark.marking.work.items
+    c.loop-mark.told.items c.args.marking.now.nodes.marks c.loop-mark.marking.nodes.marks c.loop-mark.marking.places
+    c.args.marking.now.nodes.work c.loop-mark.marking.nodes.work
     (omega (arith, c.loop-mark.told.ok, c.in_default.ensures.cases.0)) c.loop-mark.invariant

@@ -10,7 +10,8 @@ invariant-loop-mark g l =
     (row_by (g.R.Rules.gives l.rules) (g.R.Rules.awaits l.rules) (g.R.Rules.meets_in l.rules))
     (g.R.Rules.is_own l.rules) (g.R.Rules.depth_of l.rules) g.R.Node.Ord.cmp l.limits.nodes l.limits.depth
     l.fn.told.items
-    l.told.items l.fn.marking.marks l.marking.marks l.marking.places l.fn.marking.work.items l.marking.work.items
+    l.told.items l.fn.marking.nodes.marks l.marking.nodes.marks l.marking.places l.fn.marking.nodes.work
+    l.marking.nodes.work
 
 abbrev pub decreases-loop-mark : goal.decreases-loop-mark
 decreases-loop-mark g l = length l.told.items

@@ -13,7 +13,7 @@ returns-then-contains_key-clause-marked g c =
     (sym c.contains_key.ensures ∙ c.if-contains_key.true) in
     marked_already (g.R.Rules.is_root rules)
     (row_by (g.R.Rules.gives rules) (g.R.Rules.awaits rules) (g.R.Rules.meets_in rules)) (g.R.Rules.is_own rules)
-    (g.R.Rules.depth_of rules) g.R.Node.Ord.cmp c.args.limits.nodes c.args.limits.depth c.args.marking.now.marks
-    c.args.marking.now.places c.args.mark c.args.marking.now.work.items c.requires.sound
-    (get_contains (nodes_of c.args.marking.now.marks) there.0 c.args.mark.node
+    (g.R.Rules.depth_of rules) g.R.Node.Ord.cmp c.args.limits.nodes c.args.limits.depth c.args.marking.now.nodes.marks
+    c.args.marking.now.places c.args.mark c.args.marking.now.nodes.work c.requires.sound
+    (get_contains (nodes_of c.args.marking.now.nodes.marks) there.0 c.args.mark.node
     (c.requires.sound.found c.args.mark.node there.0 there.1))
