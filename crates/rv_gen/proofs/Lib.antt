@@ -1,0 +1,4 @@
+pub mod Near
+pub mod Encoded
+pub mod Values
+pub mod Tests

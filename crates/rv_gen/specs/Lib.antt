@@ -1,0 +1,9 @@
+pub mod Frame
+pub mod Operands
+pub mod Computing
+pub mod Moving
+pub mod Calling
+pub mod Lines
+pub mod Placing
+pub mod Near
+pub mod Holds
