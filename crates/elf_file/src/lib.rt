@@ -13,6 +13,3 @@ pub use fault::ElfFault;
 pub use layout::{ElfLayout, TEXT_AT};
 pub use load::load_elf;
 pub use write::write_elf;
-
-#[cfg(test)]
-mod tests;

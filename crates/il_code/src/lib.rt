@@ -25,6 +25,3 @@ pub use operation::{BinaryOperation, Operation};
 pub use reach::{falls_through, reached};
 pub use read::{HeaderFault, instruction_at, tiny_code};
 pub use reading::read_body;
-
-#[cfg(test)]
-mod tests;

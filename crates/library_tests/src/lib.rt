@@ -4,6 +4,8 @@
 #[cfg(test)]
 mod encodings;
 #[cfg(test)]
+mod executables;
+#[cfg(test)]
 mod files;
 #[cfg(test)]
 mod flow;
@@ -13,3 +15,5 @@ mod heaps;
 mod machine;
 #[cfg(test)]
 mod numbers;
+#[cfg(test)]
+mod selected;

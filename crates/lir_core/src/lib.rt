@@ -13,6 +13,3 @@ pub use op::{
     UnaryOperation,
 };
 pub use soundness::check;
-
-#[cfg(test)]
-mod tests;

@@ -17,6 +17,3 @@ pub use fault::SigFault;
 pub use laws::{refusals, signatures_read_one_way, types_by_productions, types_read_one_way};
 pub use sig::{MethodSig, Sig};
 pub use signature::{read_sig, read_type};
-
-#[cfg(test)]
-mod tests;

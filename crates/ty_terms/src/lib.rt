@@ -24,6 +24,3 @@ pub use nodes::{DictEntry, Node, Part, PartKind, Warning};
 pub use sqlite_items::Boxed;
 pub use substitution::{all_variables_below, subst, subst_all, variables_below};
 pub use ty::{Primitive, Ty};
-
-#[cfg(test)]
-mod tests;

@@ -1,4 +1,4 @@
-use crate::{MethodSig, Sig, SigFault, read_annotation, read_sig, read_type};
+use md_sigs::{MethodSig, Sig, SigFault, read_annotation, read_sig, read_type};
 use num_core::List;
 use std::alloc::Global;
 use std::process::Abort;
@@ -92,68 +92,74 @@ fn signatures(rt: HostRuntime) {
     assert!(rt; read_sig(alloc, &[0x07, 0x00], 1) == Ok(Sig::Locals(List::new(alloc))));
 }
 
-/// What is refused, at the first byte that can't go on, or at the end.
-static REFUSED: [(&[u8], SigFault); 28] = [
-    (&[], SigFault::BadSig(0)),
-    // No signature begins so.
-    (&[0x0D], SigFault::BadSig(0)),
-    (&[0x05, 0x00, 0x01], SigFault::BadSig(0)),
-    // The blob ends early.
-    (&[0x00, 0x00], SigFault::BadSig(2)),
-    (&[0x00, 0x80], SigFault::BadSig(2)),
-    (&[0x10, 0x01], SigFault::BadSig(2)),
-    (&[0x07, 0x02, 0x08], SigFault::BadSig(3)),
-    (&[0x06, 0x12, 0xC0, 0x00, 0x00], SigFault::BadSig(5)),
-    (&[0x06, 0x15, 0x12, 0x05, 0x02, 0x08], SigFault::BadSig(6)),
-    // It goes on behind its end.
-    (&[0x06, 0x08, 0x08], SigFault::BadSig(2)),
-    (&[0x06, 0x08, 0x0D], SigFault::BadSig(2)),
-    // A number begins with E0; an index has the tag 3.
-    (&[0x00, 0xE0], SigFault::BadSig(1)),
-    (&[0x06, 0x12, 0x03], SigFault::BadSig(2)),
-    (&[0x06, 0x12, 0x0F], SigFault::BadSig(2)),
-    (&[0x06, 0x12, 0x80, 0x07], SigFault::BadSig(3)),
-    // VOID, BYREF and other bytes where they can't stand.
-    (&[0x06, 0x01], SigFault::BadSig(1)),
-    (&[0x00, 0x01, 0x01, 0x01], SigFault::BadSig(3)),
-    (&[0x06, 0x10, 0x08], SigFault::BadSig(1)),
-    (&[0x00, 0x00, 0x1D, 0x10, 0x08], SigFault::BadSig(3)),
-    (&[0x07, 0x01, 0x10, 0x10, 0x08], SigFault::BadSig(3)),
-    (&[0x06, 0x15, 0x08], SigFault::BadSig(2)),
-    (&[0x06, 0x15, 0x0D], SigFault::BadSig(2)),
-    (&[0x06, 0xFF], SigFault::BadSig(1)),
-    // Element types outside.
-    (&[0x00, 0x00, 0x0D], SigFault::SigOutside(0x0D)),
-    (&[0x06, 0x00], SigFault::SigOutside(0x00)),
-    (&[0x07, 0x01, 0x45, 0x10, 0x08], SigFault::SigOutside(0x45)),
-    (&[0x00, 0x00, 0x10, 0x08], SigFault::SigOutside(0x10)),
-    (
-        &[0x00, 0x00, 0x1F, 0x05, 0x10, 0x08],
-        SigFault::SigOutside(0x10),
-    ),
-];
+/// What is refused, at the first byte that can't go on, or at the end: no signature begins so; the blob ends early; it
+/// goes on behind its end; a number begins with E0, or an index has the tag 3; VOID, BYREF and other bytes where they
+/// can't stand; element types outside.
+static REFUSED: &str = "\
+0D = 6 BadSig 0
+ = 6 BadSig 0
+050001 = 6 BadSig 0
+0000 = 6 BadSig 2
+0080 = 6 BadSig 2
+1001 = 6 BadSig 2
+070208 = 6 BadSig 3
+0612C00000 = 6 BadSig 5
+061512050208 = 6 BadSig 6
+060808 = 6 BadSig 2
+06080D = 6 BadSig 2
+00E0 = 6 BadSig 1
+061203 = 6 BadSig 2
+06120F = 6 BadSig 2
+06128007 = 6 BadSig 3
+0601 = 6 BadSig 1
+00010101 = 6 BadSig 3
+061008 = 6 BadSig 1
+00001D1008 = 6 BadSig 3
+0701101008 = 6 BadSig 3
+061508 = 6 BadSig 2
+06150D = 6 BadSig 2
+06FF = 6 BadSig 1
+00000D = 7 SigOutside 13
+0600 = 7 SigOutside 0
+0701451008 = 7 SigOutside 69
+00001008 = 7 SigOutside 16
+00001F051008 = 7 SigOutside 16
+";
 
-fn is_refused(rt: &impl Abort, alloc: Global, blob: &[u8], fault: SigFault) {
-    assert!(rt; blob.len() < 1_000_000);
-    assert!(rt; read_sig(alloc, blob, 1) == Err(fault));
+/// Why a blob is refused.
+fn refusal(alloc: Global, blob: &[u8]) -> Option<SigFault> {
+    if blob.len() > 1_000_000 {
+        return None;
+    }
+    match read_sig(alloc, blob, 1) {
+        Ok(_) => None,
+        Err(fault) => Some(fault),
+    }
 }
 
 #[test]
-fn refusals(rt: HostRuntime) {
-    for (blob, fault) in &REFUSED {
-        is_refused(&rt, rt.alloc(), blob, *fault);
+fn refusals(rt: HostRuntime) -> Result<(), Fail> {
+    for row in REFUSED.lines() {
+        let (digits, answer) = row.split_once(" = ").ok_or("no answer")?;
+        let blob = hex::decode(rt.alloc(), digits)?;
+        let fault = refusal(rt.alloc(), blob.as_slice()).ok_or("no refusal")?;
+        assert!(rt;
+            format!(in rt.alloc(); "{fault}")?.as_str() == answer,
+            "{row}"
+        );
     }
     assert!(rt; read_type(rt.alloc(), &[0x10, 0x08], 1) == Err(SigFault::BadSig(0)));
     assert!(rt; read_type(rt.alloc(), &[0x14, 0x08], 1) == Err(SigFault::SigOutside(0x14)));
+    Ok(())
 }
 
 /// Vectors of vectors, a hundred thousand deep.
 #[test]
 fn deep_types(rt: HostRuntime) -> Result<(), Fail> {
     let mut blob = vec![in rt.alloc(); 0x1D; 100_000]?;
-    is_refused(&rt, rt.alloc(), &blob, SigFault::BadSig(0));
+    assert_eq!(rt; refusal(rt.alloc(), &blob), Some(SigFault::BadSig(0)));
     blob[0] = 0x06;
-    is_refused(&rt, rt.alloc(), &blob, SigFault::BadSig(100_000));
+    assert_eq!(rt; refusal(rt.alloc(), &blob), Some(SigFault::BadSig(100_000)));
     Ok(())
 }
 

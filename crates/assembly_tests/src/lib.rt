@@ -1,0 +1,21 @@
+//! The tests of the libraries that read assemblies: values from outside, and each call that allocates once where it
+//! succeeds.
+#![tactic(auto)]
+
+#[cfg(test)]
+mod bodies;
+#[cfg(test)]
+mod core_classes;
+#[cfg(test)]
+mod images;
+#[cfg(test)]
+mod layouts;
+#[cfg(test)]
+mod listings;
+mod names;
+#[cfg(test)]
+mod signatures;
+#[cfg(test)]
+mod types;
+#[cfg(test)]
+mod writing;

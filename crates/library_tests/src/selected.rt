@@ -1,0 +1,543 @@
+use byteorder::{ByteOrder, LittleEndian};
+use ilc_io::{MemSink, MemSource};
+use lir_core::{
+    Argument, BinaryOperation, Block, Callee, CheckedOperation, DivisionPart, LirBody, LirOp,
+    Place, Test, check,
+};
+use num_core::{Fix, FixKind, Kind, List, Memory, Narrow};
+use rt_code::{Routine, routine};
+use rv_gen::{Code, select};
+use rv_isa::encode;
+use rv_step::{Machine, Segment};
+use std::alloc::Global;
+use std::process::Abort;
+use std::test::Fail;
+
+/// Where the machine's one segment begins, and in it the root, the lowest address of a frame and the end of the stack.
+const AT: u64 = 0x1_0000;
+
+const ROOT: u64 = AT + 0x8000;
+
+const LOWEST: u64 = AT + 0x9000;
+
+const STACK_END: u64 = AT + 0xa000;
+
+const SIZE: usize = 0xa100;
+
+static ROUTINES: [Routine; 7] = [
+    Routine::Start,
+    Routine::End,
+    Routine::WriteByte,
+    Routine::ReadByte,
+    Routine::StackBound,
+    Routine::HeapBound,
+    Routine::Unhandled,
+];
+
+// ---- programs
+
+/// A body with slots 0 to 23.
+fn body(alloc: Global, vars: &[u32], ops: List<LirOp>) -> Result<LirBody, Memory> {
+    Ok(LirBody {
+        ops,
+        frame: 320,
+        marks: List::new(alloc),
+        vars: List::from_slice(alloc, vars)?,
+    })
+}
+
+fn add(ops: &mut List<LirOp>, op: LirOp) -> Result<(), Memory> {
+    ops.push(op).map_err(|_| Memory)
+}
+
+fn constant(ops: &mut List<LirOp>, to: u32, value: i64) -> Result<(), Memory> {
+    add(ops, LirOp::Constant { to, value })
+}
+
+fn binary(
+    ops: &mut List<LirOp>,
+    operation: BinaryOperation,
+    to: u32,
+    left: u32,
+    right: u32,
+) -> Result<(), Memory> {
+    add(
+        ops,
+        LirOp::Binary {
+            operation,
+            kind: Kind::I4,
+            to,
+            left,
+            right,
+        },
+    )
+}
+
+fn call_routine(
+    alloc: Global,
+    ops: &mut List<LirOp>,
+    which: Routine,
+    arguments: &[u32],
+    to: Option<u32>,
+) -> Result<(), Memory> {
+    let number = which.number();
+    let arguments = List::from_slice(alloc, arguments)?;
+    add(
+        ops,
+        LirOp::Routine {
+            number,
+            arguments,
+            result: to,
+        },
+    )
+}
+
+/// A call of the body of a number with the word of a slot, whose result is a word.
+fn call(alloc: Global, ops: &mut List<LirOp>, item: u32, from: u32, to: u32) -> Result<(), Memory> {
+    let arguments = List::from_slice(
+        alloc,
+        &[Argument {
+            from,
+            to: 8,
+            words: 1,
+        }],
+    )?;
+    add(
+        ops,
+        LirOp::Call {
+            callee: Callee::Body(item),
+            dictionary: None,
+            arguments,
+            result: Block { slot: to, words: 1 },
+        },
+    )
+}
+
+fn give_back(ops: &mut List<LirOp>, slot: u32) -> Result<(), Memory> {
+    let result = Block { slot, words: 1 };
+    add(ops, LirOp::Return { result })
+}
+
+/// Reads bytes to the end of the input, writes each, and returns how many there were.
+fn echoes(alloc: Global) -> Result<LirBody, Memory> {
+    let mut ops = List::new(alloc);
+    constant(&mut ops, 9, 0)?;
+    constant(&mut ops, 10, -1)?;
+    call_routine(alloc, &mut ops, Routine::ReadByte, &[], Some(8))?;
+    let at_end = LirOp::Branch {
+        test: Test::Equal,
+        kind: Kind::I8,
+        left: 8,
+        right: 10,
+        label: 8,
+    };
+    add(&mut ops, at_end)?;
+    call_routine(alloc, &mut ops, Routine::WriteByte, &[8], None)?;
+    constant(&mut ops, 11, 1)?;
+    binary(&mut ops, BinaryOperation::Add, 9, 9, 11)?;
+    add(&mut ops, LirOp::Jump { label: 2 })?;
+    give_back(&mut ops, 9)?;
+    body(alloc, &[8, 9], ops)
+}
+
+/// Calls the next body with a number, and returns what it gives.
+fn calls_with(alloc: Global, value: i64) -> Result<LirBody, Memory> {
+    let mut ops = List::new(alloc);
+    constant(&mut ops, 9, value)?;
+    call(alloc, &mut ops, 1, 9, 10)?;
+    give_back(&mut ops, 10)?;
+    body(alloc, &[9], ops)
+}
+
+/// The n-th Fibonacci number, by two calls of itself.
+fn fibonacci(alloc: Global) -> Result<LirBody, Memory> {
+    let mut ops = List::new(alloc);
+    constant(&mut ops, 11, 2)?;
+    let small = LirOp::Branch {
+        test: Test::Less,
+        kind: Kind::I4,
+        left: 8,
+        right: 11,
+        label: 9,
+    };
+    add(&mut ops, small)?;
+    constant(&mut ops, 12, 1)?;
+    binary(&mut ops, BinaryOperation::Subtract, 9, 8, 12)?;
+    call(alloc, &mut ops, 1, 9, 10)?;
+    binary(&mut ops, BinaryOperation::Subtract, 9, 8, 11)?;
+    call(alloc, &mut ops, 1, 9, 13)?;
+    binary(&mut ops, BinaryOperation::Add, 10, 10, 13)?;
+    give_back(&mut ops, 10)?;
+    give_back(&mut ops, 8)?;
+    body(alloc, &[8, 9, 10], ops)
+}
+
+/// Has variables 1, 2, .., calls the next body with a number, and returns their sum.
+fn keeps_variables(alloc: Global, vars: &[u32], calls: bool) -> Result<LirBody, Memory> {
+    let mut ops = List::new(alloc);
+    let mut value = 0;
+    for var in vars {
+        value = i64::saturating_add(value, 1);
+        constant(&mut ops, *var, value)?;
+    }
+    constant(&mut ops, 20, 0)?;
+    if calls {
+        call(alloc, &mut ops, 1, 20, 21)?;
+    }
+    for var in vars {
+        binary(&mut ops, BinaryOperation::Add, 20, 20, *var)?;
+    }
+    give_back(&mut ops, 20)?;
+    body(alloc, vars, ops)
+}
+
+/// Calls itself for ever.
+fn never_ends(alloc: Global) -> Result<LirBody, Memory> {
+    let mut ops = List::new(alloc);
+    call(alloc, &mut ops, 0, 8, 9)?;
+    give_back(&mut ops, 9)?;
+    body(alloc, &[8], ops)
+}
+
+/// Counts down from 3 in a loop that is longer than a branch can reach, and returns 40 and what is left.
+fn long_loop(alloc: Global) -> Result<LirBody, Memory> {
+    let mut ops = List::new(alloc);
+    constant(&mut ops, 8, 3)?;
+    constant(&mut ops, 9, 1)?;
+    constant(&mut ops, 10, 40)?;
+    for _ in 0..400 {
+        constant(&mut ops, 11, 0x1234_5678_9abc_def0)?;
+    }
+    binary(&mut ops, BinaryOperation::Subtract, 8, 8, 9)?;
+    add(&mut ops, LirOp::BranchUnlessZero { value: 8, label: 3 })?;
+    binary(&mut ops, BinaryOperation::Add, 10, 10, 8)?;
+    give_back(&mut ops, 10)?;
+    body(alloc, &[8, 9], ops)
+}
+
+/// Adds 1 to the greatest int32, and divides by 0: returns 7 where both go to their labels.
+fn refuses(alloc: Global) -> Result<LirBody, Memory> {
+    let mut ops = List::new(alloc);
+    constant(&mut ops, 8, 0x7fff_ffff)?;
+    constant(&mut ops, 9, 1)?;
+    constant(&mut ops, 10, 0)?;
+    let sum = LirOp::Checked {
+        operation: CheckedOperation::Add,
+        kind: Kind::I4,
+        to: 8,
+        left: 8,
+        right: 9,
+        overflow: 5,
+    };
+    add(&mut ops, sum)?;
+    give_back(&mut ops, 9)?;
+    let quotient = LirOp::Divide {
+        part: DivisionPart::Quotient,
+        kind: Kind::I4,
+        to: 9,
+        left: 8,
+        right: 10,
+        zero: 7,
+        overflow: 4,
+    };
+    add(&mut ops, quotient)?;
+    give_back(&mut ops, 9)?;
+    constant(&mut ops, 9, 0x8000_0000)?;
+    add(&mut ops, LirOp::Move { to: 10, from: 8 })?;
+    constant(&mut ops, 11, 7)?;
+    give_back(&mut ops, 11)?;
+    body(alloc, &[8], ops)
+}
+
+/// Copies 19 bytes of slots by their addresses, and returns the 16 bits at the last two.
+fn moves_bytes(alloc: Global) -> Result<LirBody, Memory> {
+    let mut ops = List::new(alloc);
+    add(
+        &mut ops,
+        LirOp::Clear {
+            to: Place::Slot {
+                slot: 12,
+                offset: 0,
+            },
+            bytes: 48,
+        },
+    )?;
+    constant(&mut ops, 8, -2)?;
+    let last = Place::Slot {
+        slot: 14,
+        offset: 1,
+    };
+    let store = LirOp::Store {
+        to: last,
+        from: 8,
+        narrow: Narrow::I2,
+    };
+    add(&mut ops, store)?;
+    add(&mut ops, LirOp::SlotAddress { to: 9, slot: 12 })?;
+    add(&mut ops, LirOp::SlotAddress { to: 10, slot: 15 })?;
+    let copy = LirOp::Copy {
+        to: Place::Flat {
+            base: 10,
+            offset: 0,
+        },
+        from: Place::Flat { base: 9, offset: 0 },
+        bytes: 19,
+    };
+    add(&mut ops, copy)?;
+    let load = LirOp::Load {
+        to: 11,
+        from: Place::Slot {
+            slot: 17,
+            offset: 1,
+        },
+        narrow: Narrow::I2,
+    };
+    add(&mut ops, load)?;
+    give_back(&mut ops, 11)?;
+    body(alloc, &[8, 9], ops)
+}
+
+// ---- linking
+
+/// Memory that is filled from its begin on, the begins of routines and of bodies, and what takes an address.
+#[derive(Drop)]
+struct Image {
+    bytes: List<u8>,
+    routines: List<u64>,
+    bodies: List<u64>,
+    fixes: List<(usize, Fix)>,
+}
+
+/// Memory with the address of the root and the routines.
+fn with_routines(alloc: Global) -> Result<Image, Fail> {
+    let mut image = Image {
+        bytes: List::from_slice(alloc, &ROOT.to_le_bytes())?,
+        routines: List::new(alloc),
+        bodies: List::new(alloc),
+        fixes: List::new(alloc),
+    };
+    for which in &ROUTINES {
+        let begin = AT.saturating_add(image.bytes.len() as u64);
+        image.routines.extend_from_slice(&[begin])?;
+        let code = routine(alloc, *which)?;
+        for ins in code.as_slice() {
+            push_word(&mut image.bytes, encode(ins))?;
+        }
+    }
+    Ok(image)
+}
+
+fn push_word(bytes: &mut List<u8>, word: u32) -> Result<(), Memory> {
+    let mut four = [0; 4];
+    LittleEndian::write_u32(&mut four, word);
+    bytes.extend_from_slice(&four)
+}
+
+/// Adds a body, if it is sound.
+fn add_body(alloc: Global, image: &mut Image, body: &LirBody) -> Result<(), Fail> {
+    if check(body) {
+        let code = select(alloc, body)?;
+        add_code(image, &code)?;
+    }
+    Ok(())
+}
+
+/// Adds the code of a body.
+fn add_code(image: &mut Image, code: &Code) -> Result<(), Memory> {
+    let begin = image.bytes.len();
+    let address = AT.saturating_add(begin as u64);
+    image.bodies.extend_from_slice(&[address])?;
+    for word in code.words.as_slice() {
+        push_word(&mut image.bytes, *word)?;
+    }
+    for fix in code.fixes.as_slice() {
+        let place = begin.saturating_add((fix.at as usize).saturating_mul(4));
+        image.fixes.extend_from_slice(&[(place, *fix)])?;
+    }
+    Ok(())
+}
+
+/// The address that a fix names.
+fn named(routines: &[u64], bodies: &[u64], fix: Fix) -> u64 {
+    let begins = match fix.kind {
+        FixKind::Routine => routines,
+        FixKind::Code | FixKind::Dict | FixKind::Item => bodies,
+    };
+    match begins.get(fix.item as usize) {
+        Some(begin) => *begin,
+        None => 0,
+    }
+}
+
+/// Puts the distance of an address into the two words at a place.
+fn put(bytes: &mut [u8], place: usize, address: u64) {
+    if place >= bytes.len() || bytes.len() - place < 8 {
+        return;
+    }
+    let from = AT.wrapping_add(place as u64);
+    let distance = (address.wrapping_sub(from) % (1 << 32)) as u32;
+    let upper = distance.wrapping_add(2048) & 0xffff_f000;
+    let first = LittleEndian::read_u32(&bytes[place..place + 4]);
+    let second = LittleEndian::read_u32(&bytes[place + 4..place + 8]);
+    LittleEndian::write_u32(&mut bytes[place..place + 4], first | upper);
+    LittleEndian::write_u32(
+        &mut bytes[place + 4..place + 8],
+        second | distance.wrapping_mul(0x10_0000),
+    );
+}
+
+/// The memory of a program.
+fn memory(alloc: Global, bodies: &[LirBody]) -> Result<List<u8>, Fail> {
+    let mut image = with_routines(alloc)?;
+    for body in bodies {
+        add_body(alloc, &mut image, body)?;
+    }
+    let Image {
+        bytes,
+        routines,
+        bodies,
+        fixes,
+    } = image;
+    let first = match bodies.get(0) {
+        Some(first) => *first,
+        None => 0,
+    };
+    let mut bytes = bytes.into_vec();
+    for (place, fix) in fixes.as_slice() {
+        let address = named(routines.as_slice(), bodies.as_slice(), *fix);
+        put(bytes.as_mut_slice(), *place, address);
+    }
+    let mut memory = List::from_slice(alloc, bytes.as_slice())?;
+    memory.resize(0x8000, 0)?;
+    for number in [first, STACK_END, LOWEST, STACK_END] {
+        memory.extend_from_slice(&number.to_le_bytes())?;
+    }
+    memory.resize(SIZE, 0)?;
+    Ok(memory)
+}
+
+/// The machine that runs a program.
+fn machine(alloc: Global, bodies: &[LirBody]) -> Result<Machine, Fail> {
+    let mut segments = List::new(alloc);
+    let segment = Segment {
+        at: AT,
+        bytes: memory(alloc, bodies)?,
+        read: true,
+        write: true,
+        execute: true,
+    };
+    segments.push(segment).map_err(|_| Memory)?;
+    Ok(Machine::new(alloc, segments, AT + 8)?)
+}
+
+/// Whether a program ends with this status, this output and this error text.
+fn comes_to(
+    alloc: Global,
+    bodies: List<LirBody>,
+    input: &[u8],
+    status: u8,
+    output: &[u8],
+    error: &[u8],
+) -> Result<bool, Fail> {
+    let mut m = machine(alloc, bodies.as_slice())?;
+    let mut input = MemSource::new(alloc, input, &[])?;
+    let mut out = MemSink::new(alloc, &[])?;
+    let mut err = MemSink::new(alloc, &[])?;
+    let ran = m.run(&mut input, &mut out, &mut err, 100_000);
+    let ended = match ran {
+        Ok(ran) => ran.status == status,
+        Err(_) => false,
+    };
+    Ok(ended && out.bytes() == output && err.bytes() == error)
+}
+
+fn one(alloc: Global, body: LirBody) -> Result<List<LirBody>, Memory> {
+    let mut bodies = List::new(alloc);
+    bodies.push(body).map_err(|_| Memory)?;
+    Ok(bodies)
+}
+
+fn two(alloc: Global, first: LirBody, second: LirBody) -> Result<List<LirBody>, Memory> {
+    let mut bodies = one(alloc, first)?;
+    bodies.push(second).map_err(|_| Memory)?;
+    Ok(bodies)
+}
+
+fn echoes_all(alloc: Global) -> Result<bool, Fail> {
+    let bodies = one(alloc, echoes(alloc)?)?;
+    comes_to(alloc, bodies, b"h\xff\0i", 4, b"h\xff\0i", b"")
+}
+
+fn counts_calls(alloc: Global) -> Result<bool, Fail> {
+    let first = calls_with(alloc, 11)?;
+    let bodies = two(alloc, first, fibonacci(alloc)?)?;
+    comes_to(alloc, bodies, b"", 89, b"", b"")
+}
+
+/// Whether the sum of variables is this behind a call of a body with variables.
+fn sums(alloc: Global, outer: &[u32], inner: &[u32], status: u8) -> Result<bool, Fail> {
+    let first = keeps_variables(alloc, outer, true)?;
+    let bodies = two(alloc, first, keeps_variables(alloc, inner, false)?)?;
+    comes_to(alloc, bodies, b"", status, b"", b"")
+}
+
+fn reaches_the_bound(alloc: Global) -> Result<bool, Fail> {
+    let bodies = one(alloc, never_ends(alloc)?)?;
+    comes_to(alloc, bodies, b"", 134, b"", b"stack bound reached\n")
+}
+
+/// Whether a body ends with this status, and writes nothing.
+fn ends(alloc: Global, body: LirBody, status: u8) -> Result<bool, Fail> {
+    let bodies = one(alloc, body)?;
+    comes_to(alloc, bodies, b"", status, b"", b"")
+}
+
+static EIGHT: [u32; 8] = [8, 9, 10, 11, 12, 13, 14, 15];
+
+static NINE: [u32; 9] = [8, 9, 10, 11, 12, 13, 14, 15, 16];
+
+#[test]
+fn reads_and_writes(rt: HostRuntime) -> Result<(), Fail> {
+    assert!(rt; echoes_all(rt.alloc())?);
+    Ok(())
+}
+
+#[test]
+fn recursion(rt: HostRuntime) -> Result<(), Fail> {
+    assert!(rt; counts_calls(rt.alloc())?);
+    Ok(())
+}
+
+#[test]
+fn eight_and_nine_variables(rt: HostRuntime) -> Result<(), Fail> {
+    assert!(rt; sums(rt.alloc(), &NINE, &EIGHT, 45)?);
+    assert!(rt; sums(rt.alloc(), &EIGHT, &NINE, 36)?);
+    Ok(())
+}
+
+#[test]
+fn bound_of_the_stack(rt: HostRuntime) -> Result<(), Fail> {
+    assert!(rt; reaches_the_bound(rt.alloc())?);
+    Ok(())
+}
+
+#[test]
+fn far_branches(rt: HostRuntime) -> Result<(), Fail> {
+    let body = long_loop(rt.alloc())?;
+    assert!(rt; ends(rt.alloc(), body, 40)?);
+    Ok(())
+}
+
+#[test]
+fn refusals(rt: HostRuntime) -> Result<(), Fail> {
+    let body = refuses(rt.alloc())?;
+    assert!(rt; ends(rt.alloc(), body, 7)?);
+    Ok(())
+}
+
+#[test]
+fn bytes_moved(rt: HostRuntime) -> Result<(), Fail> {
+    let body = moves_bytes(rt.alloc())?;
+    assert!(rt; ends(rt.alloc(), body, 254)?);
+    Ok(())
+}
