@@ -4,6 +4,7 @@ import re
 
 TABLE = "crates/il_code/specs/Opcodes.antt"
 SOURCE = "crates/il_code/src/opcode.rt"
+NAMES = "crates/il_text/specs/Mnemonics.antt"
 # how many bytes an operand of each form takes; one of targets takes as many as its first four say
 SIZES = {"Absent": 0, "Unsigned8": 1, "Unsigned16": 2, "Signed8": 1, "Signed32": 4, "Signed64": 8, "Token": 4,
          "Target8": 1, "Target32": 4, "Targets": None}
@@ -32,6 +33,12 @@ def rows():
     """The rows of the table: the opcode's bytes, the variant and the form of the operand."""
     found = re.findall(r"^ *\(0x([0-9A-F]+), Op\.(\w+), (\w+)\) ∷", read(TABLE), re.M)
     return [(bytes.fromhex(code), variant, form) for code, variant, form in found]
+
+
+def text_names():
+    """The instructions that have names in a text: the opcode's bytes, the name and the form of the operand."""
+    found = re.findall(r'^ *\(0x([0-9A-F]+), codes "([^"]*)", (\w+)\) ∷', read(NAMES), re.M)
+    return [(bytes.fromhex(code), name, form) for code, name, form in found]
 
 
 def encodings():

@@ -7,7 +7,7 @@ import struct
 import sys
 from xml.etree import ElementTree
 
-from opcode_table import SIZES, mnemonic, rows, variants
+from opcode_table import SIZES, mnemonic, rows, text_names, variants
 
 ROWS = rows()
 # the operand of an instruction as the standard describes it (ECMA-335 III.3 and III.4): a number, the tables of its
@@ -125,6 +125,9 @@ def wrong_rows():
     yield from (f"{name} stands twice" for name in set(every) if every.count(name) != 1)
     yield from (f"0x{code.hex()} stands twice" for code in set(codes) if codes.count(code) != 1)
     yield from (f"the table lacks {name}" for name in listed() if name not in map(mnemonic, names))
+    table = [(code, mnemonic(name), form) for code, name, form in ROWS]
+    yield from (f"texts have {name} as 0x{code.hex()} {form}" for code, name, form in text_names()
+                if (code, name, form) not in table)
     for code, name, form in ROWS:
         if mnemonic(name) in BY_HAND and (code, SIZES[form]) != BY_HAND[mnemonic(name)]:
             yield f"{mnemonic(name)}: the table has 0x{code.hex()} {form}"
@@ -150,7 +153,8 @@ def compare(file):
         sys.exit(1)
     print(f"opcodes: not compared with ilasm but with a literal: {' '.join(BY_HAND)}")
     print(f"opcodes: tokens that the table reads as numbers of the same size: {' '.join(numbers)}")
-    print(f"checks/opcodes.sh: {len(COMPARED)} opcodes are those of ilasm, {len(BY_HAND)} that of the literal")
+    print(f"checks/opcodes.sh: {len(COMPARED)} opcodes are those of ilasm, {len(BY_HAND)} that of the literal; "
+          f"{len(text_names())} have these names in texts")
 
 
 assembler_text() if sys.argv[1] == "text" else compare(sys.argv[2])
