@@ -1,5 +1,5 @@
--- Types by the standard's productions (ECMA-335 II.23.2.10 to II.23.2.12): the type in front of some bytes, and the bytes
--- behind it.
+-- Types by the standard's productions (ECMA-335 II.23.2.10 to II.23.2.12): the type in front of some bytes, and the
+-- bytes behind it.
 use Rattle.std.specs.Prelude.{◌≡◌, ℕ, List, [], ◌∷◌, replicate, Option, Some, None, Ok}
 use Rattle.ty_terms.specs.declared.names.TypeId.{TypeId}
 use Rattle.ty_terms.specs.declared.ty.Ty.{Ty}

@@ -1,10 +1,14 @@
 -- What the walks of the two functions that see a chunk's address have in common. Assumes `Logic`.
 --     Ti, Bl               the rows of a title and of a block
---     Stored               the fields of a title that are stored.        title_is, title_tells     the one value that has them
---     title_made, title_known     a title is made of the right to give a block back, and tells its value and gives the right
+--     Stored               the fields of a title that are stored
+--     title_is, title_tells     the one value that has them
+--     title_made           a title is made of the right to give a block back
+--     title_known          it tells its value and gives the right
 --     block_made           a block is made of its slots and its title
---     Makes, at_makes      the contract of `Slots::from_raw_parts`, and what it is called at.        makes_goes     what it is handed
---     Parts, at_parts, parts_goes     the same of `Slots::into_raw_parts`.        Pair     the type of what that answers
+--     Makes, at_makes      the contract of `Slots::from_raw_parts`, and what it is called at
+--     makes_goes           what it is handed
+--     Parts, at_parts, parts_goes     the same of `Slots::into_raw_parts`
+--     Pair                 the type of what that answers
 use mathlib.Core.Path.{◌≡◌, refl, ap, ◌∙◌}
 use mathlib.Core.Bool.{Bool}
 use Prim.Native.Nat.{ℕ, ◌<◌, ◌^◌}

@@ -1,4 +1,5 @@
--- `give_block` meets its contract: a walk of its code, since the address of the memory is a raw pointer. Assumes `Logic`.
+-- `give_block` meets its contract: a walk of its code, since the address of the memory is a raw pointer. Assumes
+-- `Logic`.
 use mathlib.Core.Path.{◌≡◌, refl, sym, ap, subst, ◌∙◌}
 use Prim.Native.Nat.{ℕ, ◌*◌, ◌<◌, ◌^◌}
 use native.Mathlib.Omega.{arith}

@@ -1,4 +1,5 @@
--- `take_block` meets its contract: a walk of its code, since the address of the memory is a raw pointer. Assumes `Logic`.
+-- `take_block` meets its contract: a walk of its code, since the address of the memory is a raw pointer. Assumes
+-- `Logic`.
 use mathlib.Core.Path.{◌≡◌, refl, sym, ap, subst, ◌∙◌}
 use mathlib.Core.Bool.{Bool, true, false}
 use Prim.Native.Nat.{ℕ, ◌*◌, ◌<◌, ◌^◌}
