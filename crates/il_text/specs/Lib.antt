@@ -2,3 +2,9 @@ pub mod Words
 pub mod Mnemonics
 pub mod Instructions
 pub mod Listing
+pub mod Ranges
+pub mod Values
+pub mod Lines
+pub mod Reading
+pub mod Assembling
+pub mod Counting

@@ -1,6 +1,7 @@
 ghost use Rattle.std.specs.Prelude.{◌≡◌, ◌+◌, ◌-◌, ◌^◌, ◌<◌, ◌≤◌, ◌++◌, ◌∷◌, [], codes, length, take, drop, Some};
 ghost use Rattle.std.specs.Prelude.{OnOk, IfOk};
 ghost use Rattle.std.specs.Option.{option_map};
+ghost use Rattle.hex.specs.Hex.{IsBytes};
 ghost use Rattle.il_code.specs.Headers.{header_of};
 ghost use Rattle.il_code.specs.Listing.{listed};
 ghost use Rattle.il_text.specs.Words.{line_text, text_of};
@@ -18,7 +19,8 @@ const FAT_HEADER: usize = 12;
 
 /// Appends the lines of a body.
 pub(crate) fn push_body(alloc: Global, out: &mut Bytes, body: &[u8]) -> Result<(), Memory>
-    ensures { OnOk result (out.new ≡ out.old ++ text_of (body_lines (Some body.now))) }
+    ensures lines { OnOk result (out.new ≡ out.old ++ text_of (body_lines (Some body.now))) }
+    ensures bytes { OnOk result (IsBytes body.now) }
 {
     match sizes(body) {
         Some((code_at, code_size)) => {
@@ -31,7 +33,7 @@ pub(crate) fn push_body(alloc: Global, out: &mut Bytes, body: &[u8]) -> Result<(
 }
 
 /// The first of the bytes, so many or all, and the others.
-fn split(bytes: &[u8], size: usize) -> (&[u8], &[u8])
+pub(crate) fn split(bytes: &[u8], size: usize) -> (&[u8], &[u8])
     ensures front { result.0.now ≡ take size bytes.now }
     ensures back { result.1.now ≡ drop size bytes.now }
 {
@@ -39,7 +41,7 @@ fn split(bytes: &[u8], size: usize) -> (&[u8], &[u8])
 }
 
 /// Where the code of a body begins, and how many bytes it has, if a header stands at the front (ECMA-335 II.25.4).
-fn sizes(body: &[u8]) -> Option<(usize, u32)>
+pub(crate) fn sizes(body: &[u8]) -> Option<(usize, u32)>
     ensures { result ≡ option_map (λ header. (header.code_at, header.code_size)) (header_of body.now) }
 {
     let first = *body.first()?;
@@ -76,7 +78,8 @@ pub(crate) fn push_bytes_line(
     word: &[u8],
     bytes: &[u8],
 ) -> Result<(), Memory>
-    ensures { OnOk result (out.new ≡ out.old ++ line_text (bytes_line word.now bytes.now)) }
+    ensures line { OnOk result (out.new ≡ out.old ++ line_text (bytes_line word.now bytes.now)) }
+    ensures bytes { OnOk result (IsBytes bytes.now) }
 {
     out.extend_from_slice(word)?;
     push(out, b' ')?;

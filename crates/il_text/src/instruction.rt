@@ -21,7 +21,7 @@ use std::alloc::Global;
 const PREFIX: u8 = 0xFE;
 
 /// The number of the opcode at the front of the bytes, and how many of them it takes.
-fn opcode_number(bytes: &[u8]) -> Option<(u16, usize)>
+pub(crate) fn opcode_number(bytes: &[u8]) -> Option<(u16, usize)>
     ensures number { result ≡ opcode_number_of bytes.now }
     ensures within { IfSome result (λ number. number.1 ≤ length bytes.now) }
 {

@@ -1,7 +1,9 @@
-ghost use Rattle.std.specs.Prelude.{◌≡◌, ◌^◌, ◌<◌, ◌++◌, ◌∷◌, [], codes, map, length, OnOk, IfOk};
+ghost use Rattle.std.specs.Prelude.{◌≡◌, ◌^◌, ◌<◌, ◌++◌, ◌∷◌, [], codes, map, length, All, OnOk, IfOk, Ok};
 ghost use Rattle.std.specs.List.{flat_map};
 ghost use Rattle.il_text.specs.Words.{line_text, text_of, spaced, table_word};
 ghost use Rattle.il_text.specs.Listing.{cell_word, row_lines, table_lines, entry_line, listing_of};
+ghost use Rattle.il_text.specs.Ranges.{CellInRange, RowInRange, TableInRange};
+ghost use Rattle.il_text.specs.Assembling.{assembled};
 
 use crate::body::{push_body, push_bytes_line};
 use crate::words::{push, push_bytes, push_name, push_number, push_row, push_table};
@@ -16,7 +18,8 @@ use std::alloc::Global;
 /// The code of a body is written as instructions exactly where it is instructions of the profile and its surroundings
 /// from its begin to its end, and as bytes otherwise.
 pub fn list(alloc: Global, module: &Module) -> Result<Bytes, Memory>
-    ensures { IfOk result (λ text. text ≡ listing_of «module».now) }
+    ensures listing { IfOk result (λ text. text ≡ listing_of «module».now) }
+    ensures read_back { IfOk result (λ text. assembled text ≡ Ok «module».now) }
 {
     let mut out = List::new(alloc);
     push_entry(&mut out, module.entry())?;
@@ -27,7 +30,8 @@ pub fn list(alloc: Global, module: &Module) -> Result<Bytes, Memory>
 
 /// Appends the line of an entry token.
 fn push_entry(out: &mut Bytes, entry: u32) -> Result<(), Memory>
-    ensures { OnOk result (out.new ≡ out.old ++ line_text (entry_line entry)) }
+    ensures line { OnOk result (out.new ≡ out.old ++ line_text (entry_line entry)) }
+    ensures small { OnOk result (entry < 2 ^ 32) }
 {
     out.extend_from_slice(b".entry ")?;
     push_number(out, entry)?;
@@ -37,7 +41,8 @@ fn push_entry(out: &mut Bytes, entry: u32) -> Result<(), Memory>
 
 /// Appends the lines of tables.
 fn push_tables(alloc: Global, out: &mut Bytes, tables: &[Table]) -> Result<(), Memory>
-    ensures { OnOk result (out.new ≡ out.old ++ text_of (flat_map table_lines tables.now)) }
+    ensures lines { OnOk result (out.new ≡ out.old ++ text_of (flat_map table_lines tables.now)) }
+    ensures in_range { OnOk result (All TableInRange tables.now) }
 {
     for table in tables {
         push_rows(alloc, out, table.number, table.rows.as_slice())?;
@@ -47,7 +52,8 @@ fn push_tables(alloc: Global, out: &mut Bytes, tables: &[Table]) -> Result<(), M
 
 /// Appends the lines of the rows of a table.
 fn push_rows(alloc: Global, out: &mut Bytes, table: u8, rows: &[TableRow]) -> Result<(), Memory>
-    ensures { OnOk result (out.new ≡ out.old ++ text_of (flat_map (row_lines table) rows.now)) }
+    ensures lines { OnOk result (out.new ≡ out.old ++ text_of (flat_map (row_lines table) rows.now)) }
+    ensures in_range { OnOk result ((table < 256) × All RowInRange rows.now) }
 {
     for row in rows {
         push_table_row(alloc, out, table, row)?;
@@ -57,7 +63,8 @@ fn push_rows(alloc: Global, out: &mut Bytes, table: u8, rows: &[TableRow]) -> Re
 
 /// Appends the lines of a row: its own, and those of its body.
 fn push_table_row(alloc: Global, out: &mut Bytes, table: u8, row: &TableRow) -> Result<(), Memory>
-    ensures { OnOk result (out.new ≡ out.old ++ text_of (row_lines table row.now)) }
+    ensures lines { OnOk result (out.new ≡ out.old ++ text_of (row_lines table row.now)) }
+    ensures in_range { OnOk result (RowInRange row.now) }
 {
     push_row_line(alloc, out, table, row.cells.as_slice())?;
     match &row.body {
@@ -68,7 +75,9 @@ fn push_table_row(alloc: Global, out: &mut Bytes, table: u8, row: &TableRow) -> 
 
 /// Appends the line of a row.
 fn push_row_line(alloc: Global, out: &mut Bytes, table: u8, cells: &[Cell]) -> Result<(), Memory>
-    ensures { OnOk result (out.new ≡ out.old ++ line_text (codes ".row" ∷ table_word table ∷ map cell_word cells.now)) }
+    ensures line { OnOk result (out.new ≡ out.old
+        ++ line_text (codes ".row" ∷ table_word table ∷ map cell_word cells.now)) }
+    ensures in_range { OnOk result (All CellInRange cells.now) }
 {
     out.extend_from_slice(b".row ")?;
     push_table(alloc, out, table)?;
@@ -79,7 +88,8 @@ fn push_row_line(alloc: Global, out: &mut Bytes, table: u8, cells: &[Cell]) -> R
 
 /// Appends cells, each behind a space.
 fn push_cells(alloc: Global, out: &mut Bytes, cells: &[Cell]) -> Result<(), Memory>
-    ensures { OnOk result (out.new ≡ out.old ++ flat_map spaced (map cell_word cells.now)) }
+    ensures words { OnOk result (out.new ≡ out.old ++ flat_map spaced (map cell_word cells.now)) }
+    ensures in_range { OnOk result (All CellInRange cells.now) }
 {
     for cell in cells {
         push(out, b' ')?;
@@ -90,7 +100,8 @@ fn push_cells(alloc: Global, out: &mut Bytes, cells: &[Cell]) -> Result<(), Memo
 
 /// Appends a cell.
 fn push_cell(alloc: Global, out: &mut Bytes, cell: &Cell) -> Result<(), Memory>
-    ensures { OnOk result (out.new ≡ out.old ++ cell_word cell.now) }
+    ensures word { OnOk result (out.new ≡ out.old ++ cell_word cell.now) }
+    ensures in_range { OnOk result (CellInRange cell.now) }
 {
     match cell {
         Cell::Number(number) => push_number(out, *number),

@@ -1,6 +1,7 @@
 ghost use Rattle.std.specs.Prelude.{◌≡◌, ◌==◌, map, find as first_of};
 ghost use Rattle.std.specs.Option.{option_map, option_or, option_copied};
 ghost use Rattle.il_text.specs.Mnemonics.{row_numbered, row_numbered_in, row_of};
+ghost use Rattle.il_text.specs.Reading.{row_named, row_named_in};
 ghost use Rattle.il_text.specs.Mnemonics.{loads as load_rows, branches as branch_rows, arithmetic as arithmetic_rows};
 ghost use Rattle.il_text.specs.Mnemonics.{objects as object_rows, elements as element_rows, prefixed as prefixed_rows};
 
@@ -300,4 +301,43 @@ fn first(rows: &'static [Mnemonic], number: u16) -> Option<&'static Mnemonic>
     ensures { option_copied result ≡ first_of (λ row. row.0 == number) rows.now }
 {
     rows.iter().find(|row| row.0 == number)
+}
+
+/// The row of a name, if an instruction has it.
+pub(crate) fn row_of_name(word: &[u8]) -> Option<&'static Mnemonic>
+    ensures { option_map row_of (option_copied result) ≡ row_named word.now }
+{
+    let load = find_named(loads(), word);
+    let branch = or_find_named(load, branches(), word);
+    let calculation = or_find_named(branch, arithmetic(), word);
+    let object = or_find_named(calculation, objects(), word);
+    let element = or_find_named(object, elements(), word);
+    or_find_named(element, prefixed(), word)
+}
+
+/// The row that was found, or else that of a name in a table.
+fn or_find_named(
+    found: Option<&'static Mnemonic>,
+    rows: &'static [Mnemonic],
+    word: &[u8],
+) -> Option<&'static Mnemonic>
+    ensures { option_map row_of (option_copied result)
+        ≡ option_or (option_map row_of (option_copied found.entry)) (row_named_in (map row_of rows.now) word.now) }
+{
+    match found {
+        Some(row) => Some(row),
+        None => find_named(rows, word),
+    }
+}
+
+/// The row of a name in a table.
+fn find_named(rows: &'static [Mnemonic], word: &[u8]) -> Option<&'static Mnemonic>
+    ensures { option_map row_of (option_copied result) ≡ row_named_in (map row_of rows.now) word.now }
+{
+    for row in rows {
+        if row.1 == word {
+            return Some(row);
+        }
+    }
+    None
 }

@@ -1,8 +1,8 @@
 ghost use Rattle.std.specs.Prelude.{◌≡◌, ◌∷◌, ◌++◌, [], codes, decimal as decimal_digits, IfOk, OnOk};
-ghost use Rattle.std.specs.Prelude.{◌≤ℤ◌, ◌^◌, pos, negsuc, ◌-◌};
+ghost use Rattle.std.specs.Prelude.{◌≤ℤ◌, ◌^◌, ◌<◌, pos, negsuc, ◌-◌};
 ghost use Rattle.std.specs.Fmt.{signed_decimal as signed_digits};
 ghost use Rattle.std.specs.List.{flat_map};
-ghost use Rattle.hex.specs.Hex.{encode_upper};
+ghost use Rattle.hex.specs.Hex.{encode_upper, IsBytes};
 ghost use Rattle.il_text.specs.Words.{bytes_word, name_byte, name_word, token_word, table_word, row_word, spaced};
 ghost use Rattle.il_text.specs.Words.{is_plain as is_plain_byte};
 
@@ -32,7 +32,8 @@ pub(crate) fn push(out: &mut Bytes, byte: u8) -> Result<(), Memory>
 
 /// Appends bytes as digits, two for each.
 fn push_digits(alloc: Global, out: &mut Bytes, bytes: &[u8]) -> Result<(), Memory>
-    ensures { OnOk result (out.new ≡ out.old ++ encode_upper bytes.now) }
+    ensures digits { OnOk result (out.new ≡ out.old ++ encode_upper bytes.now) }
+    ensures bytes { OnOk result (IsBytes bytes.now) }
 {
     let digits = hex::encode_upper(alloc, bytes)?;
     out.extend_from_slice(digits.as_bytes())?;
@@ -41,7 +42,8 @@ fn push_digits(alloc: Global, out: &mut Bytes, bytes: &[u8]) -> Result<(), Memor
 
 /// Appends a number.
 pub(crate) fn push_number(out: &mut Bytes, number: u32) -> Result<(), Memory>
-    ensures { OnOk result (out.new ≡ out.old ++ decimal_digits number) }
+    ensures digits { OnOk result (out.new ≡ out.old ++ decimal_digits number) }
+    ensures small { OnOk result (number < 2 ^ 32) }
 {
     let mut buffer = Buffer::new();
     out.extend_from_slice(buffer.format(number).as_bytes())?;
@@ -59,7 +61,8 @@ pub(crate) fn push_signed(out: &mut Bytes, number: i64) -> Result<(), Memory>
 
 /// Appends a word of bytes.
 pub(crate) fn push_bytes(alloc: Global, out: &mut Bytes, bytes: &[u8]) -> Result<(), Memory>
-    ensures { OnOk result (out.new ≡ out.old ++ bytes_word bytes.now) }
+    ensures word { OnOk result (out.new ≡ out.old ++ bytes_word bytes.now) }
+    ensures bytes { OnOk result (IsBytes bytes.now) }
 {
     push(out, b'x')?;
     push_digits(alloc, out, bytes)?;
@@ -67,7 +70,7 @@ pub(crate) fn push_bytes(alloc: Global, out: &mut Bytes, bytes: &[u8]) -> Result
 }
 
 /// Whether a byte stands for itself in a name.
-fn is_plain(byte: u8) -> bool
+pub(crate) fn is_plain(byte: u8) -> bool
     ensures { result ≡ is_plain_byte byte }
 {
     (0x20..=0x7E).contains(&byte) && byte != b'"' && byte != b'\\'
@@ -98,7 +101,8 @@ fn push_name_bytes(alloc: Global, out: &mut Bytes, text: &[u8]) -> Result<(), Me
 
 /// Appends a name.
 pub(crate) fn push_name(alloc: Global, out: &mut Bytes, text: &[u8]) -> Result<(), Memory>
-    ensures { OnOk result (out.new ≡ out.old ++ name_word text.now) }
+    ensures word { OnOk result (out.new ≡ out.old ++ name_word text.now) }
+    ensures bytes { OnOk result (IsBytes text.now) }
 {
     push(out, b'"')?;
     push_name_bytes(alloc, out, text)?;
@@ -119,7 +123,8 @@ pub(crate) fn push_token(alloc: Global, out: &mut Bytes, token: u32) -> Result<(
 
 /// Appends the number of a table.
 pub(crate) fn push_table(alloc: Global, out: &mut Bytes, table: u8) -> Result<(), Memory>
-    ensures { OnOk result (out.new ≡ out.old ++ table_word table) }
+    ensures word { OnOk result (out.new ≡ out.old ++ table_word table) }
+    ensures small { OnOk result (table < 256) }
 {
     push_digits(alloc, out, &[table])?;
     Ok(())
@@ -127,7 +132,8 @@ pub(crate) fn push_table(alloc: Global, out: &mut Bytes, table: u8) -> Result<()
 
 /// Appends a row of a table.
 pub(crate) fn push_row(alloc: Global, out: &mut Bytes, table: u8, row: u32) -> Result<(), Memory>
-    ensures { OnOk result (out.new ≡ out.old ++ row_word table row) }
+    ensures word { OnOk result (out.new ≡ out.old ++ row_word table row) }
+    ensures small { OnOk result ((table < 256) × (row < 2 ^ 32)) }
 {
     push_table(alloc, out, table)?;
     push(out, b':')?;

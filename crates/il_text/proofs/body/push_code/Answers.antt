@@ -18,4 +18,4 @@ returns-in-None c =
     let code : List ℕ = c.args.code.now in
     let found : instructions_text code (listed code) ≡ None = search rules in
     subst (λ (text : List ℕ). OnOk c.push_bytes_line.result (c.push_bytes_line.new.out ≡ c.args.out.now ++ text))
-    (as_bytes code found) c.push_bytes_line.ensures
+    (as_bytes code found) c.push_bytes_line.ensures.line
