@@ -1,6 +1,6 @@
 -- Parts of lists that were joined, and conditions that hold.
 use Rattle.std.proofs.Common.{◌≡◌, ◌∙◌, ℕ, ◌+◌, List, [], ◌∷◌, ◌++◌, length, take, drop, replicate, ap}
-use Rattle.std.proofs.Common.{arith, length-append, Bool, true, false, cond, Option, Some, None}
+use Rattle.std.proofs.Common.{arith, length-append, Bool, true, false, cond, Option, Some, None, Result, Ok, Err, IfOk}
 use Rattle.std.proofs.lemmas.List.{length-replicate, take-append-le}
 use Rattle.std.proofs.Math.Seq.{drop-append_seam, take-length}
 use Rattle.pe_image.specs.declared.fault.PeFault.{PeFault}
@@ -44,3 +44,9 @@ none_in [] rest holds others = others
 none_in (condition ∷ front) rest holds others =
     one_in condition.0 condition.1 (first_fault front) (first_fault (front ++ rest))
     (λ h. none_in front rest h others) holds
+
+-- what follows from two facts on what a call gave
+pub both_ok : {A E : Type 0} (result : Result A E) (P Q R : A → Type 0) → IfOk result P → IfOk result Q
+    → ((x : A) → P x → Q x → R x) → IfOk result R
+both_ok (Ok x) P Q R p q f = f x p q
+both_ok (Err fault) P Q R p q f = tt

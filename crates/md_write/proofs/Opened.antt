@@ -2,7 +2,7 @@
 use Rattle.std.proofs.Common.{◌≡◌, ◌∙◌, ℕ, ◌+◌, ◌-◌, ◌^◌, ◌<◌, ◌≤◌, ◌==◌, true, false, List, [], ◌∷◌}
 use Rattle.std.proofs.Common.{◌++◌, length, replicate, ap, refl, arith, append_assoc}
 use Rattle.std.proofs.Common.{length-append, Some, None, nat_le}
-use Rattle.std.proofs.lemmas.Bool.{le-leb, lt-ltb}
+use Rattle.std.proofs.lemmas.Bool.{le-leb, lt-ltb, ltb-true}
 use Rattle.byteorder.specs.Numbers.{little_number-reads_back}
 use Rattle.pe_image.specs.Conditions.{first_fault, number_at}
 use Rattle.pe_image.specs.Pe.{header_conditions, sections, somewhere}
@@ -10,7 +10,7 @@ use Rattle.pe_image.specs.declared.section.Section.{Section as FileSection}
 use Rattle.md_write.specs.declared.section.Section.{Section}
 use Rattle.md_write.specs.Contents.{padding, padded}
 use Rattle.md_write.specs.Written.{headers, cli_header, metadata_at, section_bytes, file_of, up_to}
-use Rattle.md_write.specs.Written.{file_alignment}
+use Rattle.md_write.specs.Written.{file_alignment, section_at, is_addressable}
 use Rattle.std.proofs.Common.{ne_eqb}
 use Rattle.md_write.proofs.Joined.{length-padded}
 
@@ -32,6 +32,14 @@ length-file section =
     ∙ (ap (λ n. n + length (padded file_alignment (section_bytes section)))
     (length-headers section.entry (size_of section))
     ∙ ap (λ n. 512 + n) (length-padded file_alignment (section_bytes section)))
+
+-- the file of a section whose addresses have 32 bits
+pub small_file : (section : Section) (file : List ℕ) → is_addressable (size_of section) ≡ true → file ≡ file_of section
+    → section_at + length file < 2 ^ 32
+small_file section file few same =
+    let low : section_at + (file_alignment + raw_size section) < 2 ^ 32 =
+    ltb-true (section_at + (file_alignment + raw_size section)) (2 ^ 32) few in
+    omega (arith, low, length-file section, ap length same)
 
 -- the section that the headers tell of
 abbrev pub section_told : Section → FileSection

@@ -1,5 +1,7 @@
 -- The heaps of a module as they are written: ECMA-335 II.24.2.3 to II.24.2.5.
-use Rattle.std.specs.Prelude.{ℕ, ◌==◌, List, [], ◌∷◌, drop, fold, find, Option, Some, None, if◌then◌else◌}
+use Rattle.std.specs.Prelude.{ℕ, ◌^◌, ◌==◌, Bool, true, nat_lt, List, [], ◌∷◌, length, drop, fold, find, Option, Some}
+use Rattle.std.specs.Prelude.{None, if◌then◌else◌}
+use Rattle.std.specs.List.{list_all}
 use Rattle.md_rows.specs.declared.cell.Cell.{Cell}
 use Rattle.md_rows.specs.declared.cell.Cell.TheVariants.{Number, Name, Blob, Index, Coded}
 use Rattle.md_rows.specs.declared.schema.Column.{Column}
@@ -66,3 +68,23 @@ with_table tables heaps schema = with_rows schema heaps (table_rows tables schem
 -- the heaps of a module's tables: what is seen first stands first
 unfoldable pub heaps_of : List Table → Heaps
 heaps_of tables = fold (with_table tables) first_heaps schemas
+
+-- ---- what heaps can hold
+
+-- a compressed number tells how long a blob is, and there is none from 2 ^ 29 on (II.23.2)
+abbrev pub is_short : Cell → Bool
+is_short (Number number) = true
+is_short (Name text) = true
+is_short (Blob bytes) = nat_lt (length bytes) (2 ^ 29)
+is_short (Index row) = true
+is_short (Coded table row) = true
+
+abbrev pub has_short_cells : ℕ → TableRow → Bool
+has_short_cells number row = list_all is_short (own_cells number row)
+
+abbrev pub has_short_rows : Table → Bool
+has_short_rows table = list_all (has_short_cells table.number) table.rows
+
+-- each blob of the tables can be told
+abbrev pub are_short : List Table → Bool
+are_short tables = list_all has_short_rows tables

@@ -5,3 +5,4 @@ pub mod Rows
 pub mod Stream
 pub mod Written
 pub mod Opening
+pub mod Agreeing

@@ -1,6 +1,6 @@
 -- The file of a module: ECMA-335 II.24.2.1, II.24.2.2 and II.25.
-use Rattle.std.specs.Prelude.{ℕ, ◌+◌, ◌^◌, ◌==◌, Bool, nat_le, List, [], ◌∷◌, ◌++◌, length, replicate, codes, find}
-use Rattle.std.specs.Prelude.{Option, if◌then◌else◌}
+use Rattle.std.specs.Prelude.{ℕ, ◌+◌, ◌^◌, ◌==◌, Bool, nat_le, nat_lt, List, [], ◌∷◌, ◌++◌, length, replicate, codes}
+use Rattle.std.specs.Prelude.{find, Option, if◌then◌else◌}
 use Rattle.std.specs.Option.{option_map}
 use Rattle.byteorder.specs.Endian.{little_bytes}
 use Rattle.md_tables.specs.declared.module.Table.{Table}
@@ -117,6 +117,10 @@ section_alignment = 0x2000
 
 abbrev pub up_to : ℕ → ℕ → ℕ
 up_to multiple size = size + padding multiple size
+
+-- the addresses of a file whose section has so many bytes have 32 bits
+abbrev pub is_addressable : ℕ → Bool
+is_addressable size = nat_lt (section_at + (file_alignment + up_to file_alignment size)) (2 ^ 32)
 
 -- Of a section of so many bytes: PE32, linked by 6.0, the size of the code and of data, no entry point in machine code,
 -- and the address of the code. A loader of today needs no import table and no stub.

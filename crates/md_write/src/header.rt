@@ -1,6 +1,7 @@
 ghost use Rattle.std.specs.Prelude.{◌≡◌, ◌++◌, ◌+◌, ◌<◌, ◌≤◌, ◌^◌, OnOk};
 ghost use Rattle.md_write.specs.Written.{dos_header, dos_message, coff_header, standard_fields, system_fields};
 ghost use Rattle.md_write.specs.Written.{directories, section_header, headers as headers_of, up_to as up_to_in};
+ghost use Rattle.md_write.specs.Written.{is_addressable as is_addressable_in};
 
 use crate::put::{padding, put_halves, put_words, put_zeros};
 use crate::section::{CLI_HEADER, SECTION_AT};
@@ -37,6 +38,9 @@ const PE32: u64 = 0x10B;
 /// The sizes of parts of the file are multiples of this.
 pub(crate) const FILE_ALIGNMENT: u64 = 0x200;
 
+/// The first number that is no address of 32 bits.
+const ADDRESSES: u64 = 0x1_0000_0000;
+
 /// The addresses of parts of the image are multiples of this.
 const SECTION_ALIGNMENT: u64 = 0x2000;
 
@@ -55,6 +59,14 @@ fn up_to(multiple: u64, size: usize) -> u64
     ensures near { result ≤ size + 0x2000 }
 {
     size as u64 + padding(multiple as usize, size) as u64
+}
+
+/// Whether the addresses of a file whose section has so many bytes have 32 bits.
+pub(crate) fn is_addressable(size: usize) -> bool
+    requires { size < 2 ^ 63 }
+    ensures { result ≡ is_addressable_in size }
+{
+    SECTION_AT + (FILE_ALIGNMENT + up_to(FILE_ALIGNMENT, size)) < ADDRESSES
 }
 
 /// Adds the signature and the COFF header (ECMA-335 II.25.2.2).

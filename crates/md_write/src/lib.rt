@@ -8,6 +8,7 @@ mod heap;
 mod heaps;
 mod kind;
 mod laws;
+mod limits;
 mod metadata;
 mod put;
 mod row;

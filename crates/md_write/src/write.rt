@@ -1,19 +1,23 @@
-ghost use Rattle.std.specs.Prelude.{◌≡◌, ◌⊎◌, ◌↔◌, ℕ, ◌+◌, None, Some, Err, IfOk, find};
+ghost use Rattle.std.specs.Prelude.{◌≡◌, ◌⊎◌, ◌↔◌, ℕ, ◌+◌, ◌<◌, ◌^◌, length, None, Some, Err, IfOk, find};
 ghost use Rattle.std.specs.Option.{option_map, option_copied};
 ghost use Rattle.md_write.specs.Contents.{padded};
 ghost use Rattle.md_write.specs.Heaps.{heaps_of as heaps_in};
 ghost use Rattle.md_write.specs.Stream.{data_at as data_in};
 ghost use Rattle.md_write.specs.Written.{has_too_many as has_too_many_in, first_too_many as first_in, image_of};
-ghost use Rattle.md_write.specs.Written.{streams_with, section_of as section_in, file_of};
+ghost use Rattle.md_write.specs.Written.{streams_with, section_of as section_in, section_bytes, file_of};
+ghost use Rattle.md_write.specs.Written.{section_at};
+ghost use Rattle.md_write.specs.Agreeing.{ReadsBack};
 
 use crate::content::{code, data};
 use crate::fault::WriteFault;
-use crate::header::{FILE_ALIGNMENT, put_headers};
+use crate::header::{FILE_ALIGNMENT, is_addressable, put_headers};
 use crate::heaps::heaps_of;
+use crate::limits::are_short;
 use crate::metadata::{Streams, metadata};
 use crate::put::put_padded;
 use crate::section::{Section, section_of};
 use crate::stream::{CODE_AT, stream};
+use md_heaps::spellings_are_read;
 use md_tables::{Module, Table};
 use num_core::{Bytes, Memory};
 use std::alloc::Global;
@@ -93,31 +97,53 @@ fn section(alloc: Global, entry: u32, user: &[u8], tables: &[Table]) -> Result<S
     })
 }
 
-/// The file of a section.
-fn file(alloc: Global, section: &Section) -> Result<Bytes, Memory>
+/// The file of a section that has these bytes.
+fn file_with(alloc: Global, section: &Section, bytes: &[u8]) -> Result<Bytes, Memory>
+    requires { bytes.now ≡ section_bytes section.now }
     ensures { IfOk result (λ file. file ≡ file_of section.now) }
 {
-    let bytes = section_of(alloc, section)?;
     let mut file = Bytes::new(alloc);
     put_headers(&mut file, section.entry, bytes.len())?;
-    put_padded(&mut file, FILE_ALIGNMENT as usize, bytes.as_slice())?;
+    put_padded(&mut file, FILE_ALIGNMENT as usize, bytes)?;
     Ok(file)
 }
 
-/// The image of a module whose tables don't have too many rows.
+/// The file of a section. One whose addresses do not have 32 bits is want of memory.
+fn file(alloc: Global, section: &Section) -> Result<Bytes, Memory>
+    ensures file { IfOk result (λ file. file ≡ file_of section.now) }
+    ensures small { IfOk result (λ file. section_at + length file < 2 ^ 32) }
+{
+    let bytes = section_of(alloc, section)?;
+    if !is_addressable(bytes.len()) {
+        return Err(Memory);
+    }
+    file_with(alloc, section, bytes.as_slice())
+}
+
+/// The image of a module whose tables do not have too many rows. A blob whose length cannot be told is want of memory.
 fn image(alloc: Global, module: &Module) -> Result<Bytes, Memory>
     requires { first_in «module».now.tables ≡ None }
-    ensures { IfOk result (λ image. image ≡ image_of «module».now.entry «module».now.user «module».now.tables) }
+    ensures written { IfOk result (λ image. image ≡ image_of «module».now.entry «module».now.user «module».now.tables) }
+    ensures reads_back { IfOk result (λ image. ReadsBack image «module».now) }
 {
-    let section = section(alloc, module.entry(), module.user(), module.tables())?;
+    spellings_are_read();
+    let entry = module.entry();
+    let tables = module.tables();
+    if !are_short(tables) {
+        return Err(Memory);
+    }
+    let section = section(alloc, entry, module.user(), tables)?;
     file(alloc, &section)
 }
 
 /// The image of a module, in a PE file (ECMA-335 II.25), whose last byte is the last of its section.
 ///
-/// `TooManyRows` tells the first table that has 2^24 rows or more.
+/// The image opens, and the module that is read from it agrees with the one that was written.
+/// `TooManyRows` tells the first table that has 2^24 rows or more. `Memory` comes also where an address would not fit
+/// 32 bits, or a blob has 2^29 bytes or more, which no such file can tell.
 pub fn write_image(alloc: Global, module: &Module) -> Result<Bytes, WriteFault>
     ensures written { IfOk result (λ image. image ≡ image_of «module».now.entry «module».now.user «module».now.tables) }
+    ensures reads_back { IfOk result (λ image. ReadsBack image «module».now) }
     ensures too_many { (table : ℕ) →
         (result ≡ Err (WriteFault.TooManyRows table)) ↔ (first_in «module».now.tables ≡ Some table) }
 {
