@@ -3,40 +3,18 @@ and how often each instruction of the profile stands in it, with what monodis te
 
 import collections
 import concurrent.futures
-import glob
 import os
 import re
-import subprocess
 import sys
 
+from assemblies import assemblies, run, wrong_rows
 from opcode_table import read
 
 PROGRAM, FOLDER = sys.argv[1:]
-# the tables that monodis lists, by its option for each (ECMA-335 II.22)
-TABLES = {
-    "module": 0x00, "typeref": 0x01, "typedef": 0x02, "fields": 0x04, "method": 0x06, "param": 0x08, "interface": 0x09,
-    "memberref": 0x0A, "constant": 0x0B, "customattr": 0x0C, "classlayout": 0x0F, "standalonesig": 0x11,
-    "methodimpl": 0x19, "typespec": 0x1B, "fieldrva": 0x1D, "assemblyref": 0x23, "nested": 0x29, "genericpar": 0x2A,
-    "methodspec": 0x2B,
-}
 # what monodis writes otherwise than ECMA-335 III does
 SPELLED = {"ldelem.any": "ldelem", "stelem.any": "stelem", "brzero": "brfalse", "brinst": "brtrue"}
 # the instructions of the profile; any other is printed as its bytes
 NAMES = re.findall(r'^ +\(0x[0-9A-F]+, codes "([^"]+)"', read("crates/il_text/specs/Mnemonics.antt"), re.M)
-
-
-def run(*words):
-    done = subprocess.run(words, stdout=subprocess.PIPE, stderr=subprocess.PIPE, check=False)
-    return done.returncode, done.stdout.decode("utf-8", "replace"), done.stderr.decode("utf-8", "replace")
-
-
-def counted_rows(file, option):
-    """How many rows the table has by monodis, or nothing where it tells none."""
-    status, text, _ = run("monodis", "--" + option, file)
-    found = re.search(r"\(1\.\.(\d+)\)", text.split("\n", 1)[0])
-    if found:
-        return int(found.group(1))
-    return None if status else len(re.findall(r"^\d+: ", text, re.M))
 
 
 def instructions(file):
@@ -54,12 +32,7 @@ def compare(file):
     if status:
         return error.split()[1:3], []
     lines = [line.split(" ", 2) for line in text.split("\n")]
-    have = collections.Counter(int(line[1], 16) for line in lines if line[0] == ".row")
-    wrong = []
-    for option, table in TABLES.items():
-        wanted = counted_rows(file, option)
-        if wanted is not None and wanted != have[table]:
-            wrong.append(f"table {table:02X}: {have[table]} rows, and {wanted} by monodis")
+    wrong = wrong_rows(file, collections.Counter(int(line[1], 16) for line in lines if line[0] == ".row"))
     wanted = instructions(file)
     has = collections.Counter(line[0] for line in lines if not line[0].startswith("."))
     if wanted is not None and not any(line[0] == ".code" for line in lines):
@@ -70,7 +43,7 @@ def compare(file):
 
 
 def main():
-    files = sorted(set(map(os.path.realpath, glob.glob(FOLDER + "/*.dll") + glob.glob(FOLDER + "/*.exe"))))
+    files = assemblies(FOLDER)
     refused = collections.Counter()
     agree = 0
     failed = 0

@@ -14,34 +14,41 @@ use Rattle.md_tables.specs.Finished.{module_of}
 use Rattle.md_tables.specs.declared.fault.TableFault.{TableFault}
 use Rattle.md_tables.specs.declared.fault.TableFault.TheVariants.{BadTable as BadRow, RefusedTable as RefusedRows}
 use Rattle.md_tables.specs.declared.fault.TableFault.TheVariants.{BadHeader as BadBody, Memory as NoMemory}
+use Rattle.il_text.specs.Assembling.{assembled}
 use Rattle.il_text.specs.Listing.{listing_of}
+use Rattle.il_text.specs.declared.fault.IlTextFault.{IlTextFault}
+use Rattle.il_text.specs.declared.fault.IlTextFault.TheVariants.{BadText as BadWord, Memory as WantsMemory}
 use Rattle.rv_step.specs.Machine.{MachineState}
 use Rattle.elf_file.specs.Elf.{loaded}
 use Rattle.ilc_build.specs.Bare.{first_past}
 use Rattle.ilc_build.specs.Depths.{first_against, has_operation, is_verified_at}
+use Rattle.ilc_build.specs.Implements.{Builds}
 use Rattle.ilc_build.specs.Typing.{tiny_max_stack}
-use Rattle.ilc.specs.Answer.{HasWritten, HasBare, HasProgram, HasListed, HasAssembly, NoneCounted, NoneOfStreams}
-use Rattle.ilc.specs.Cause.{NotTaken, IsTaken, WriteOutcome, MachineOutcome, BodyOutcome, RunOutcome, CommandOutcome}
-use Rattle.ilc.specs.Cause.{DisOutcome, TextOutcome, Cause, file_limit, elf_limit, spent, trapped}
+use Rattle.ilc.specs.Answer.{HasWritten, HasBare, HasProgram, HasListed, HasAssembly, HasImage, HasText, NoneCounted}
+use Rattle.ilc.specs.Answer.{NoneOfStreams}
+use Rattle.ilc.specs.Cause.{NotTaken, IsImageOf, WriteOutcome, MachineOutcome, MakingOutcome, BodyOutcome}
+use Rattle.ilc.specs.Cause.{AsmOutcome, RunOutcome, DisOutcome, TextOutcome, CommandOutcome, Cause, file_limit}
+use Rattle.ilc.specs.Cause.{elf_limit}
 use Rattle.ilc.specs.Line.{status_of}
 use Rattle.ilc.specs.Printed.{Adds}
 use Rattle.ilc.specs.Refusals.{IsFormed, refusal_row}
 use Rattle.ilc.specs.Seen.{StoreSeen, StreamsSeen}
 use Rattle.ilc.specs.Stages.{Stage, Header, Opcodes, Targets, Flow, Operations, Verification, Load, Image, Tables}
-use Rattle.ilc.specs.Stages.{body_stages, elf_stages, assembly_stages, Finding, finding, found_at, refused_at}
-use Rattle.ilc.specs.Stages.{image_finding, table_finding, refused_tables, Finds, IsFirst, refusal_of}
+use Rattle.ilc.specs.Stages.{Lines, body_stages, elf_stages, assembly_stages, text_stages, Finding, finding, found_at}
+use Rattle.ilc.specs.Stages.{refused_at, image_finding, table_finding, refused_tables, refused_text, Finds}
+use Rattle.ilc.specs.Stages.{IsFirst, refusal_of}
 use Rattle.ilc.specs.Words.{command_of}
 use Rattle.ilc.specs.declared.command.Command.{Command}
-use Rattle.ilc.specs.declared.command.Command.TheVariants.{Body, Run, Dis}
+use Rattle.ilc.specs.declared.command.Command.TheVariants.{Body, Run, Dis, Asm}
 use Rattle.ilc.specs.declared.outcome.Outcome.{Outcome}
 use Rattle.ilc.specs.declared.outcome.Outcome.TheVariants.{Usage, NoFile, TooLong, Refused, ReadFault, WriteFault}
 use Rattle.ilc.specs.declared.outcome.Outcome.TheVariants.{Ended, Written, Memory}
 use Rattle.ilc.specs.declared.refusal.Fault.{Fault}
 use Rattle.ilc.specs.declared.refusal.Fault.TheVariants.{NotPe, NoCliHeader, Cut, BadTable, RefusedTable, BadHeader}
 use Rattle.ilc.specs.declared.refusal.Fault.TheVariants.{BadOpcode, BadTarget, Unverified, Spent, OpcodeOutside, Trap}
-use Rattle.ilc.specs.declared.refusal.Fault.TheVariants.{BadElf}
+use Rattle.ilc.specs.declared.refusal.Fault.TheVariants.{BadElf, BadText}
 use Rattle.ilc.specs.declared.refusal.Refusal.{Refusal}
-use Rattle.ilc.proofs.OneOutcome.{body_done, run_done, dis_done}
+use Rattle.ilc.proofs.OneOutcome.{body_done, asm_done, run_done, dis_done}
 use Rattle.ilc.proofs.Shapes.{same_some}
 
 -- ---- a body that comes out with status 0 was written
@@ -60,6 +67,7 @@ fault_fails Spent e = omega arith
 fault_fails OpcodeOutside e = omega arith
 fault_fails Trap e = omega arith
 fault_fails BadElf e = omega arith
+fault_fails BadText e = omega arith
 
 not_taken_fails : (stages : List Stage) (name : List ℕ) (limit : ℕ) (before now : StoreSeen) (o : Outcome)
     → NotTaken stages name limit before now o → status_of o ≡ 0 → ⊥
@@ -74,29 +82,29 @@ not_taken_fails stages name limit before now WriteFault h e = h
 not_taken_fails stages name limit before now (Ended status) h e = h
 not_taken_fails stages name limit before now Written h e = h
 
-written_at_0 : (out elf : List ℕ) (before now : StoreSeen) (o : Outcome) → WriteOutcome out elf before now o
-    → status_of o ≡ 0 → now.told ≡ option_map (stored out elf) before.told
-written_at_0 out elf before now Written h e = h.0
-written_at_0 out elf before now WriteFault h e = absurd (omega arith)
-written_at_0 out elf before now Memory h e = absurd (omega arith)
-written_at_0 out elf before now (Usage index) h e = absurd h
-written_at_0 out elf before now (NoFile file) h e = absurd h
-written_at_0 out elf before now (TooLong size) h e = absurd h
-written_at_0 out elf before now (Refused refusal) h e = absurd h
-written_at_0 out elf before now ReadFault h e = absurd h
-written_at_0 out elf before now (Ended status) h e = absurd h
+written_at_0 : (out made : List ℕ) (before now : StoreSeen) (o : Outcome) → WriteOutcome out made before now o
+    → status_of o ≡ 0 → now.told ≡ option_map (stored out made) before.told
+written_at_0 out made before now Written h e = h.0
+written_at_0 out made before now WriteFault h e = absurd (omega arith)
+written_at_0 out made before now Memory h e = absurd (omega arith)
+written_at_0 out made before now (Usage index) h e = absurd h
+written_at_0 out made before now (NoFile file) h e = absurd h
+written_at_0 out made before now (TooLong size) h e = absurd h
+written_at_0 out made before now (Refused refusal) h e = absurd h
+written_at_0 out made before now ReadFault h e = absurd h
+written_at_0 out made before now (Ended status) h e = absurd h
 
 body_written : (file out : List ℕ) (before now : StoreSeen) (o : Outcome) → BodyOutcome file out before now o
     → status_of o ≡ 0 → HasWritten file out before.told now.told
 body_written file out before now o (inl h) e = absurd (not_taken_fails body_stages file file_limit before now o h.0 e)
 body_written file out before now o (inr h) e =
     record {
-      bytes = h.built.bytes;
-      read = h.built.read.content;
-      elf = h.elf;
-      builds = h.built.builds;
-      written = written_at_0 out h.elf h.between now o h.writes e ∙ ap (option_map (stored out h.elf))
-          h.built.same_files;
+      bytes = h.is_made.bytes;
+      read = h.is_made.read.content;
+      elf = h.made;
+      builds = h.is_made.makes;
+      written = written_at_0 out h.made h.between now o h.writes e ∙ ap (option_map (stored out h.made))
+          h.is_made.same_files;
     }
 
 pub cause_written : (words : List (List ℕ)) (before now : StoreSeen) (streams streams' : StreamsSeen) (o : Outcome)
@@ -107,6 +115,32 @@ cause_written words before now streams streams' o file out cause command zero =
     let its_cause : CommandOutcome (Ok (Body file out)) before now streams streams' o = subst
     (λ c. CommandOutcome c before now streams streams' o) command cause in
     body_written file out before now o its_cause.0 zero
+
+-- ---- an image that was written
+
+asm_imaged : (file out : List ℕ) (before now : StoreSeen) (o : Outcome) → AsmOutcome file out before now o
+    → status_of o ≡ 0 → HasImage file out before.told now.told
+asm_imaged file out before now o (inl h) e = absurd (not_taken_fails text_stages file file_limit before now o h.0 e)
+asm_imaged file out before now o (inr h) e =
+    let image : IsImageOf h.is_made.bytes h.made = h.is_made.makes in
+    record {
+      bytes = h.is_made.bytes;
+      read = h.is_made.read.content;
+      m = image.m;
+      means = image.means;
+      written = written_at_0 out h.made h.between now o h.writes e
+          ∙ (ap (option_map (stored out h.made)) h.is_made.same_files
+          ∙ ap (λ made. option_map (stored out made) before.told) image.written);
+    }
+
+pub cause_imaged : (words : List (List ℕ)) (before now : StoreSeen) (streams streams' : StreamsSeen) (o : Outcome)
+    (file out : List ℕ)
+    → Cause words before now streams streams' o → command_of words ≡ Ok (Asm file out) → status_of o ≡ 0
+    → HasImage file out before.told now.told
+cause_imaged words before now streams streams' o file out cause command zero =
+    let its_cause : CommandOutcome (Ok (Asm file out)) before now streams streams' o = subst
+    (λ c. CommandOutcome c before now streams streams' o) command cause in
+    asm_imaged file out before now o its_cause.0 zero
 
 -- ---- an assembly whose text was written
 
@@ -180,6 +214,15 @@ dis_complete words before now streams streams' o file cause command has none cal
     (λ c. CommandOutcome c before now streams streams' o) command cause in
     done_or_memory o Written (dis_done file before now streams streams' o has none calm its_cause.0)
 
+pub asm_complete : (words : List (List ℕ)) (before now : StoreSeen) (streams streams' : StreamsSeen) (o : Outcome)
+    (file out : List ℕ)
+    → Cause words before now streams streams' o → command_of words ≡ Ok (Asm file out) → HasText file before.told
+    → NoneCounted before now → (status_of o ≡ 0) ⊎ (status_of o ≡ 75)
+asm_complete words before now streams streams' o file out cause command has none =
+    let its_cause : CommandOutcome (Ok (Asm file out)) before now streams streams' o = subst
+    (λ c. CommandOutcome c before now streams streams' o) command cause in
+    done_or_memory o Written (asm_done file out before now o has none its_cause.0)
+
 -- ---- the fields of refusals
 
 -- what is found has as many numbers as are told of its fault
@@ -223,6 +266,13 @@ tables_formed : {X : Type 0} (file : List ℕ) (r : Result X TableFault) (found 
 tables_formed file (Ok x) found e = absurd (cc)
 tables_formed file (Err fault) found e = table_formed file fault found e
 
+text_formed : {X : Type 0} (file : List ℕ) (r : Result X IlTextFault) (found : Finding) → refused_text r ≡ Some found
+    → IsToldOf file found
+text_formed file (Ok x) found e = absurd (cc)
+text_formed file (Err (BadWord line column)) found e =
+    subst (IsToldOf file) (same_some (finding BadText (line ∷ column ∷ [])) found e) refl
+text_formed file (Err WantsMemory) found e = absurd (cc)
+
 stage_formed : (stage : Stage) (file bytes : List ℕ) (found : Finding) → Finds stage bytes (Some found)
     → IsToldOf file found
 stage_formed Header file bytes found h = refused_formed file BadHeader (tiny_body bytes) found (λ n. refl) h
@@ -239,6 +289,7 @@ stage_formed Verification file bytes found h =
 stage_formed Load file bytes found h = refused_formed file BadElf (loaded bytes) found (λ n. refl) h
 stage_formed Image file bytes found h = image_formed file (first_fault (conditions bytes)) found h
 stage_formed Tables file bytes found h = tables_formed file (module_of (parts_of bytes)) found h
+stage_formed Lines file bytes found h = text_formed file (assembled bytes) found h
 
 first_formed : (stages : List Stage) (file bytes : List ℕ) (found : Finding) → IsFirst stages bytes found
     → IsToldOf file found
@@ -256,11 +307,11 @@ usage_formed : (index : ℕ) (refusal : Refusal) → (Refused refusal ≡ Usage 
 usage_formed index refusal (inl e) = absurd (cc)
 usage_formed index refusal (inr e) = absurd (cc)
 
-body_formed : (file out : List ℕ) (before now : StoreSeen) (refusal : Refusal)
-    → BodyOutcome file out before now (Refused refusal) → IsFormed refusal
-body_formed file out before now refusal (inl n) =
-    not_taken_formed body_stages file file_limit before now refusal n.0
-body_formed file out before now refusal (inr n) = absurd n.writes
+made_formed : (Makes : List ℕ → List ℕ → Type 0) (stages : List Stage) (file out : List ℕ) (before now : StoreSeen)
+    (refusal : Refusal) → MakingOutcome Makes stages file out before now (Refused refusal) → IsFormed refusal
+made_formed Makes stages file out before now refusal (inl n) =
+    not_taken_formed stages file file_limit before now refusal n.0
+made_formed Makes stages file out before now refusal (inr n) = absurd n.writes
 
 machine_formed : (machine : MachineState) (limit : ℕ) (count : Bool) (streams streams' : StreamsSeen)
     (refusal : Refusal) → MachineOutcome machine limit count streams streams' (Refused refusal) → IsFormed refusal
@@ -285,11 +336,13 @@ command_formed : (asked : Result Command ℕ) (before now : StoreSeen) (streams 
     → CommandOutcome asked before now streams streams' (Refused refusal) → IsFormed refusal
 command_formed (Err index) before now streams streams' refusal h = usage_formed index refusal h.0
 command_formed (Ok (Body file out)) before now streams streams' refusal h =
-    body_formed file out before now refusal h.0
+    made_formed Builds body_stages file out before now refusal h.0
 command_formed (Ok (Run elf limit count)) before now streams streams' refusal h =
     run_formed elf limit count before now streams streams' refusal h.0
 command_formed (Ok (Dis file)) before now streams streams' refusal h =
     dis_formed file before now streams streams' refusal h.0
+command_formed (Ok (Asm file out)) before now streams streams' refusal h =
+    made_formed IsImageOf text_stages file out before now refusal h.0
 
 pub formed_refusals : (words : List (List ℕ)) (before now : StoreSeen) (streams between : StreamsSeen)
     (refusal : Refusal)

@@ -1,6 +1,6 @@
 -- What comes of a file that wasn't read, or is refused.
 use Rattle.std.proofs.Common.{◌≡◌, ◌∙◌, ◌↔◌, ◌⊎◌, inl, inr, ℕ, ◌<◌, ◌≤◌, Bool, true, false, nat_le, List, [], ◌++◌}
-use Rattle.std.proofs.Common.{◌∷◌, Option, Some, None, Result, Ok, Err, refl, ap, sym, subst, arith}
+use Rattle.std.proofs.Common.{◌∷◌, Option, Some, None, Ok, Err, refl, ap, sym, subst, arith}
 use Rattle.std.specs.FinMap.{get}
 use Rattle.std.specs.Option.{option_map}
 use Rattle.std.proofs.lemmas.Bool.{leb-true, leb-false}
@@ -11,6 +11,9 @@ use Rattle.pe_image.specs.Pe.{conditions, parts_of}
 use Rattle.pe_image.specs.declared.fault.PeFault.{PeFault}
 use Rattle.md_tables.specs.Finished.{module_of, Refuses}
 use Rattle.md_tables.specs.declared.fault.TableFault.{TableFault}
+use Rattle.il_text.specs.Assembling.{assembled}
+use Rattle.il_text.specs.Reading.{Refuses as RefusesText}
+use Rattle.il_text.specs.declared.fault.IlTextFault.{IlTextFault}
 use Rattle.elf_file.specs.Elf.{loaded}
 use Rattle.ilc_build.specs.Refusals.{NotBare, NotBareCode, InstructionsGive}
 use Rattle.ilc_build.specs.declared.build.BuildFault.{BuildFault}
@@ -23,14 +26,14 @@ use Rattle.ilc_io.specs.declared.fault.FileFault.{FileFault}
 use Rattle.ilc_io.specs.declared.fault.FileFault.TheVariants.{Missing, Failed, TooLong as FileTooLong}
 use Rattle.ilc_io.specs.declared.fault.FileFault.TheVariants.{Memory as FileMemory}
 use Rattle.ilc.specs.Cause.{IsAsked, IsRead, IsTried, NotTaken}
-use Rattle.ilc.specs.Reading.{IsOrMemory, ReadGives, IsRefusedBy, IsUnreadable, Tells, TellsTables}
+use Rattle.ilc.specs.Reading.{IsOrMemory, ReadGives, IsRefusedBy, IsUnreadable, Tells, TellsTables, TellsText}
 use Rattle.ilc.specs.Refusals.{refusal_row}
 use Rattle.ilc.specs.Seen.{StoreSeen}
-use Rattle.ilc.specs.Stages.{Stage, body_stages, elf_stages, assembly_stages, Finding, finding, found_at, refused_at}
-use Rattle.ilc.specs.Stages.{image_finding, table_finding, refused_tables, IsFirst, IsRefused, refusal_of, fault_of}
-use Rattle.ilc.specs.Stages.{subject, body_method}
+use Rattle.ilc.specs.Stages.{Stage, body_stages, elf_stages, assembly_stages, text_stages, Finding, finding, found_at}
+use Rattle.ilc.specs.Stages.{refused_at, image_finding, table_finding, refused_tables, text_finding, refused_text}
+use Rattle.ilc.specs.Stages.{IsFirst, IsRefused, refusal_of, fault_of, subject, body_method}
 use Rattle.ilc.specs.declared.outcome.Outcome.{Outcome}
-use Rattle.ilc.specs.declared.outcome.Outcome.TheVariants.{NoFile, TooLong, Refused, ReadFault, Memory}
+use Rattle.ilc.specs.declared.outcome.Outcome.TheVariants.{Refused, Memory}
 use Rattle.ilc.specs.declared.perform.AssemblyFault.TheVariants.{Image as ImageFault, Tables as TablesFault}
 use Rattle.ilc.specs.declared.refusal.Fault.{Fault}
 use Rattle.ilc.specs.declared.refusal.Fault.TheVariants.{BadHeader, BadOpcode, BadTarget, OpcodeOutside, Unverified}
@@ -281,3 +284,19 @@ unreadable_tables bytes file fault outcome tells h = by h.1
         bytes refusal)
     by (inl e) = inl (subst (λ f. Tells file (table_finding f) outcome) e tells)
     by (inr e) = told_tables bytes file fault (table_finding fault) outcome refl h.0 (ap refused_tables e) tells
+
+-- ---- how the faults of a text are told
+
+told_text : (text file : List ℕ) (found : Option Finding) (outcome : Outcome) → refused_text (assembled text) ≡ found
+    → Tells file found outcome
+    → (outcome ≡ Memory) ⊎ ((refusal : Refusal) × (outcome ≡ Refused refusal) × IsRefused text_stages file text refusal)
+told_text text file None outcome is tells = inl tells
+told_text text file (Some found) outcome is tells = told_at text_stages file text found outcome (inl is) tells
+
+pub refused_text_is_told : (text file : List ℕ) (fault : IlTextFault) (outcome : Outcome) → TellsText file fault outcome
+    → RefusesText (assembled text) fault
+    → (outcome ≡ Memory) ⊎ ((refusal : Refusal) × (outcome ≡ Refused refusal) × IsRefused text_stages file text refusal)
+refused_text_is_told text file fault outcome tells (inl e) =
+    inl (subst (λ f. Tells file (text_finding f) outcome) e tells)
+refused_text_is_told text file fault outcome tells (inr e) =
+    told_text text file (text_finding fault) outcome (ap refused_text e) tells

@@ -1,32 +1,30 @@
 -- Where the store and the source tell all, words come to one outcome; and what outcome that is.
-use Rattle.std.proofs.Common.{◌≡◌, ◌∙◌, ◌⊎◌, inl, inr, ℕ, ◌≤◌, Bool, List, length, Option, Some, Result, Ok, Err, refl}
+use Rattle.std.proofs.Common.{◌≡◌, ◌∙◌, ◌⊎◌, inl, inr, ℕ, ◌≤◌, Bool, List, length, Some, Result, Ok, Err}
 use Rattle.std.proofs.Common.{ap, sym, subst, arith}
 use Rattle.std.specs.FinMap.{get}
-use Rattle.std.specs.Option.{option_map}
-use Rattle.num_core.specs.Run.{Run, Ended as EndedRun}
+use Rattle.num_core.specs.Run.{Ended as EndedRun}
 use Rattle.ilc_io.specs.Count.{HasRisen}
-use Rattle.ilc_io.specs.Store.{Store, stored}
-use Rattle.il_code.specs.Tiny.{tiny_body}
+use Rattle.ilc_io.specs.Store.{Store}
 use Rattle.rv_step.specs.Machine.{MachineState, machine_run}
-use Rattle.rv_step.specs.declared.trap.Trap.{Trap}
 use Rattle.elf_file.specs.Elf.{loaded}
 use Rattle.ilc_build.proofs.Refused.{small}
-use Rattle.ilc.specs.Answer.{HasWritten, HasBare, HasProgram, HasAssembly, NoneCounted, NoneOfStreams, TellsAll}
-use Rattle.ilc.specs.Answer.{ComesTo, AreOne}
-use Rattle.ilc.specs.Cause.{IsBuilt, IsLoaded, IsTaken, IsRead, NotTaken, BodyOutcome, RunOutcome, CommandOutcome}
+use Rattle.ilc_build.specs.Implements.{Builds}
+use Rattle.ilc.specs.Answer.{HasBare, HasProgram, HasAssembly, HasText, NoneCounted, NoneOfStreams}
+use Rattle.ilc.specs.Answer.{TellsAll, ComesTo, AreOne}
+use Rattle.ilc.specs.Cause.{IsLoaded, IsTaken, IsRead, IsImageOf, MakingOutcome, BodyOutcome, AsmOutcome}
+use Rattle.ilc.specs.Cause.{RunOutcome, CommandOutcome}
 use Rattle.md_tables.specs.Modules.{ModuleParts}
 use Rattle.il_text.specs.Listing.{listing_of}
-use Rattle.ilc.specs.Cause.{Cause, WriteOutcome, MachineOutcome, IsAssembly, DisOutcome, file_limit, elf_limit}
-use Rattle.ilc.specs.Line.{status_of}
+use Rattle.ilc.specs.Cause.{IsAssembly, DisOutcome, file_limit, elf_limit}
 use Rattle.ilc.specs.Seen.{StoreSeen, StreamsSeen}
-use Rattle.ilc.specs.Stages.{Stage, body_stages, elf_stages, assembly_stages}
+use Rattle.ilc.specs.Stages.{Stage, body_stages, elf_stages, assembly_stages, text_stages}
 use Rattle.ilc.specs.Words.{command_of}
 use Rattle.ilc.specs.declared.command.Command.{Command}
-use Rattle.ilc.specs.declared.command.Command.TheVariants.{Body, Run as RunCommand, Dis}
+use Rattle.ilc.specs.declared.command.Command.TheVariants.{Body, Run as RunCommand, Dis, Asm}
 use Rattle.ilc.specs.declared.outcome.Outcome.{Outcome}
-use Rattle.ilc.specs.declared.outcome.Outcome.TheVariants.{Usage, NoFile, TooLong, Refused, ReadFault, WriteFault}
+use Rattle.ilc.specs.declared.outcome.Outcome.TheVariants.{Usage}
 use Rattle.ilc.specs.declared.outcome.Outcome.TheVariants.{Ended, Written, Memory}
-use Rattle.ilc.proofs.Shapes.{assembly_passes, text_written, same_some}
+use Rattle.ilc.proofs.Shapes.{assembly_passes, text_passes, text_written, same_some}
 use Rattle.ilc.proofs.Shapes.{Shape, AllPass, bare_passes, elf_passes, shape_of, no_shape, not_taken_one, is_memory}
 use Rattle.ilc.proofs.Shapes.{written_or_memory, OutcomeOf, one_of_run, still_ended, run_outcome}
 
@@ -35,56 +33,71 @@ two o o' (inr e) h' = inl e
 two o o' (inl e) (inr e') = inr (inl e')
 two o o' (inl e) (inl e') = inr (inr (e ∙ sym e'))
 
--- ---- bodies
-
--- a body that was built has bytes that pass
-built_passes : (file elf : List ℕ) (before now : StoreSeen) (built : IsBuilt file elf before now)
-    → AllPass body_stages built.bytes
-built_passes file elf before now built = bare_passes built.bytes built.builds.body built.builds.table built.builds.reads
+-- ---- files that are made of others
 
 read_small : (name : List ℕ) (limit : ℕ) (bytes : List ℕ) (before now : StoreSeen) → IsRead name limit bytes before now
     → length bytes ≤ limit
 read_small name limit bytes before now read = let a = read.whole in let b = read.within in omega arith
 
-taken_by : (file out : List ℕ) (before now : StoreSeen) (o : Outcome) → NoneCounted before now
-    → IsTaken file out before now o → (o ≡ Written) ⊎ (o ≡ Memory)
-taken_by file out before now o none h =
-    written_or_memory out h.elf h.between now o
-    (λ risen. none.1 (subst (λ n. HasRisen n now.write_faults) h.built.write_faults risen)) h.writes
+-- bytes pass of which others may be made
+abbrev pub Passes : (List ℕ → List ℕ → Type 0) → List Stage → Type 0
+Passes Makes stages = (bytes made : List ℕ) → Makes bytes made → AllPass stages bytes
 
--- where a body was built, no outcome of a file that isn't taken comes
-built_not_shape : (file out : List ℕ) (before now : StoreSeen) (store : Store) (o o' : Outcome)
-    → before.told ≡ Some store → IsTaken file out before now o → Shape body_stages file file_limit (get store file) o'
-    → ⊥
-built_not_shape file out before now store o o' told h shape =
-    no_shape body_stages file file_limit store h.built.bytes o' (h.built.read.content store told)
-    (read_small file file_limit h.built.bytes before h.between h.built.read)
-    (built_passes file h.elf before h.between h.built) shape
+built_passes : Passes Builds body_stages
+built_passes bytes elf builds = bare_passes bytes builds.body builds.table builds.reads
 
-one_body : (file out : List ℕ) (before now now' : StoreSeen) (store : Store) (o o' : Outcome) → before.told ≡ Some store
-    → NoneCounted before now → NoneCounted before now' → BodyOutcome file out before now o
-    → BodyOutcome file out before now' o' → AreOne o o'
-one_body file out before now now' store o o' told none none' (inl h) (inl h') =
-    not_taken_one body_stages file file_limit store o o'
-    (shape_of body_stages file file_limit before now store o told none h.0)
-    (shape_of body_stages file file_limit before now' store o' told none' h'.0)
-one_body file out before now now' store o o' told none none' (inl h) (inr h') =
-    inl (is_memory o (built_not_shape file out before now' store o' o told h')
-    (shape_of body_stages file file_limit before now store o told none h.0))
-one_body file out before now now' store o o' told none none' (inr h) (inl h') =
-    inr (inl (is_memory o' (built_not_shape file out before now store o o' told h)
-    (shape_of body_stages file file_limit before now' store o' told none' h'.0)))
-one_body file out before now now' store o o' told none none' (inr h) (inr h') =
-    two o o' (taken_by file out before now o none h) (taken_by file out before now' o' none' h')
+imaged_passes : Passes IsImageOf text_stages
+imaged_passes bytes image is = text_passes bytes is.m is.means
+
+taken_by : (Makes : List ℕ → List ℕ → Type 0) (file out : List ℕ) (before now : StoreSeen) (o : Outcome)
+    → NoneCounted before now → IsTaken Makes file out before now o → (o ≡ Written) ⊎ (o ≡ Memory)
+taken_by Makes file out before now o none h =
+    written_or_memory out h.made h.between now o
+    (λ risen. none.1 (subst (λ n. HasRisen n now.write_faults) h.is_made.write_faults risen)) h.writes
+
+-- where another file was made of one, no outcome of a file that isn't taken comes
+made_not_shape : (Makes : List ℕ → List ℕ → Type 0) (stages : List Stage) (file out : List ℕ) (before now : StoreSeen)
+    (store : Store) (o o' : Outcome)
+    → Passes Makes stages → before.told ≡ Some store → IsTaken Makes file out before now o
+    → Shape stages file file_limit (get store file) o' → ⊥
+made_not_shape Makes stages file out before now store o o' passes told h shape =
+    let made = h.is_made in
+    no_shape stages file file_limit store made.bytes o' (made.read.content store told)
+    (read_small file file_limit made.bytes before h.between made.read) (passes made.bytes h.made made.makes) shape
+
+one_made : (Makes : List ℕ → List ℕ → Type 0) (stages : List Stage) (file out : List ℕ) (before now now' : StoreSeen)
+    (store : Store) (o o' : Outcome)
+    → Passes Makes stages → before.told ≡ Some store → NoneCounted before now → NoneCounted before now'
+    → MakingOutcome Makes stages file out before now o → MakingOutcome Makes stages file out before now' o'
+    → AreOne o o'
+one_made Makes stages file out before now now' store o o' passes told none none' (inl h) (inl h') =
+    not_taken_one stages file file_limit store o o' (shape_of stages file file_limit before now store o told none h.0)
+    (shape_of stages file file_limit before now' store o' told none' h'.0)
+one_made Makes stages file out before now now' store o o' passes told none none' (inl h) (inr h') =
+    inl (is_memory o (made_not_shape Makes stages file out before now' store o' o passes told h')
+    (shape_of stages file file_limit before now store o told none h.0))
+one_made Makes stages file out before now now' store o o' passes told none none' (inr h) (inl h') =
+    inr (inl (is_memory o' (made_not_shape Makes stages file out before now store o o' passes told h)
+    (shape_of stages file file_limit before now' store o' told none' h'.0)))
+one_made Makes stages file out before now now' store o o' passes told none none' (inr h) (inr h') =
+    two o o' (taken_by Makes file out before now o none h) (taken_by Makes file out before now' o' none' h')
 
 pub body_done : (file out : List ℕ) (before now : StoreSeen) (o : Outcome) → HasBare file before.told
     → NoneCounted before now → BodyOutcome file out before now o → (o ≡ Written) ⊎ (o ≡ Memory)
-body_done file out before now o bare none (inr h) = taken_by file out before now o none h
+body_done file out before now o bare none (inr h) = taken_by Builds file out before now o none h
 body_done file out before now o bare none (inl h) =
     let few : length bare.bytes ≤ 64 = small bare.bytes bare.reads.code bare.reads.header bare.reads.size in
     inr (is_memory o (no_shape body_stages file file_limit bare.store bare.bytes o bare.content (omega arith)
     (bare_passes bare.bytes bare.body bare.table bare.reads))
     (shape_of body_stages file file_limit before now bare.store o bare.tells none h.0))
+
+pub asm_done : (file out : List ℕ) (before now : StoreSeen) (o : Outcome) → HasText file before.told
+    → NoneCounted before now → AsmOutcome file out before now o → (o ≡ Written) ⊎ (o ≡ Memory)
+asm_done file out before now o has none (inr h) = taken_by IsImageOf file out before now o none h
+asm_done file out before now o has none (inl h) =
+    inr (is_memory o (no_shape text_stages file file_limit has.store has.bytes o has.content has.size
+    (text_passes has.bytes has.m has.means))
+    (shape_of text_stages file file_limit before now has.store o has.tells none h.0))
 
 -- ---- runs
 
@@ -197,12 +210,14 @@ one_command : (asked : Result Command ℕ) (before now now' : StoreSeen) (stream
 one_command (Err index) before now now' streams s s' store input o o' told left none none' calm calm' h h' = usage_one
     index o o' h.0 h'.0
 one_command (Ok (Body file out)) before now now' streams s s' store input o o' told left none none' calm calm' h h' =
-    one_body file out before now now' store o o' told none none' h.0 h'.0
+    one_made Builds body_stages file out before now now' store o o' built_passes told none none' h.0 h'.0
 one_command (Ok (RunCommand elf limit count)) before now now' streams s s' store input o o' told left none none' calm
     calm' h h' =
     one_run elf limit count before now now' streams s s' store input o o' told left none none' calm calm' h.0 h'.0
 one_command (Ok (Dis file)) before now now' streams s s' store input o o' told left none none' calm calm' h h' =
     one_dis file before now now' streams s s' store o o' told none none' calm calm' h.0 h'.0
+one_command (Ok (Asm file out)) before now now' streams s s' store input o o' told left none none' calm calm' h h' =
+    one_made IsImageOf text_stages file out before now now' store o o' imaged_passes told none none' h.0 h'.0
 
 pub one_outcome : (words : List (List ℕ)) (before : StoreSeen) (streams : StreamsSeen) (a b : Outcome)
     → TellsAll before.told streams.outside.rest → ComesTo words before streams a → ComesTo words before streams b

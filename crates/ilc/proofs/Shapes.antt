@@ -1,9 +1,9 @@
 -- What an outcome is, where the store and the source tell all and no fault is counted.
-use Rattle.std.proofs.Common.{◌≡◌, ◌∙◌, ◌⊎◌, inl, inr, ℕ, ◌+◌, ◌-◌, ◌<◌, ◌≤◌, Bool, true, false, List, [], ◌∷◌, length}
-use Rattle.std.proofs.Common.{Option, Some, None, IfSome, Result, Ok, Err, refl, ap, sym, subst, arith}
+use Rattle.std.proofs.Common.{◌≡◌, ◌∙◌, ◌⊎◌, inl, inr, ℕ, ◌+◌, ◌-◌, ◌<◌, ◌≤◌, Bool, List, [], ◌∷◌, length}
+use Rattle.std.proofs.Common.{Option, Some, None, IfSome, Result, Ok, refl, ap, sym, subst, arith}
 use Rattle.std.specs.FinMap.{get}
 use Rattle.std.specs.Option.{option_map}
-use Rattle.num_core.specs.Run.{Run, Running, Ended as EndedRun, Stopped, Streams, after, Passes}
+use Rattle.num_core.specs.Run.{Run, Running, Ended as EndedRun, Stopped, Streams, after}
 use Rattle.num_core.proofs.Runs.{after-add, after-ended, after-stopped}
 use Rattle.ilc_io.specs.Count.{HasRisen}
 use Rattle.ilc_io.specs.Store.{Store}
@@ -11,6 +11,7 @@ use Rattle.il_code.specs.declared.body.Body.{Body}
 use Rattle.il_code.specs.declared.body.Instr.{Instr}
 use Rattle.il_code.specs.Listing.{listed, first_bad_target}
 use Rattle.il_code.specs.Tiny.{tiny_body}
+use Rattle.il_text.specs.Assembling.{assembled}
 use Rattle.rv_step.specs.Machine.{MachineState, machine_step, machine_run}
 use Rattle.rv_step.specs.declared.trap.Trap.{Trap}
 use Rattle.elf_file.specs.Elf.{loaded}
@@ -21,12 +22,13 @@ use Rattle.ilc_build.specs.declared.depths.Known.{Known}
 use Rattle.ilc_build.proofs.Refused.{one_table}
 use Rattle.ilc.specs.Answer.{NoneCounted, NoneOfStreams}
 use Rattle.md_tables.specs.Modules.{ModuleParts}
-use Rattle.ilc.specs.Cause.{IsRead, NotTaken, MachineOutcome, WriteOutcome, SinkFails, spent, trapped, Assembles}
+use Rattle.ilc.specs.Cause.{NotTaken, MachineOutcome, WriteOutcome, SinkFails, spent, trapped, Assembles}
 use Rattle.ilc.specs.Cause.{TextOutcome}
 use Rattle.ilc.specs.Seen.{StoreSeen, StreamsSeen}
 use Rattle.ilc.specs.Stages.{Stage, Header, Opcodes, Targets, Flow, Operations, Verification, Load, Image, Tables}
-use Rattle.ilc.specs.Stages.{body_stages, elf_stages, assembly_stages, Finding, found_at, refused_at, image_finding}
-use Rattle.ilc.specs.Stages.{refused_tables, OfCode, OfInstructions, OfTable, Finds, IsFirst, IsRefused, refusal_of}
+use Rattle.ilc.specs.Stages.{Lines, body_stages, elf_stages, assembly_stages, text_stages, Finding, found_at}
+use Rattle.ilc.specs.Stages.{refused_at, image_finding, refused_tables, refused_text, OfCode, OfInstructions, OfTable}
+use Rattle.ilc.specs.Stages.{Finds, IsFirst, IsRefused, refusal_of}
 use Rattle.ilc.specs.declared.refusal.Fault.TheVariants.{BadHeader, BadOpcode, BadTarget, OpcodeOutside, Unverified}
 use Rattle.ilc.specs.declared.refusal.Fault.TheVariants.{BadElf}
 use Rattle.ilc.specs.declared.outcome.Outcome.{Outcome}
@@ -82,6 +84,7 @@ finds_one Verification bytes a b h h' =
 finds_one Load bytes a b h h' = sym h ∙ h'
 finds_one Image bytes a b h h' = sym h ∙ h'
 finds_one Tables bytes a b h h' = sym h ∙ h'
+finds_one Lines bytes a b h h' = sym h ∙ h'
 
 first_one : (stages : List Stage) (bytes : List ℕ) (f f' : Finding) → IsFirst stages bytes f → IsFirst stages bytes f'
     → f ≡ f'
@@ -138,6 +141,9 @@ elf_passes bytes machine e = (ap (refused_at BadElf) e, tt)
 
 pub assembly_passes : (bytes : List ℕ) (m : ModuleParts) → Assembles bytes m → AllPass assembly_stages bytes
 assembly_passes bytes m h = (ap (option_map image_finding) h.image, (ap refused_tables h.tables, tt))
+
+pub text_passes : (bytes : List ℕ) (m : ModuleParts) → assembled bytes ≡ Ok m → AllPass text_stages bytes
+text_passes bytes m e = (ap refused_text e, tt)
 
 -- ---- a file that isn't taken
 

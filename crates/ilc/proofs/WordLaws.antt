@@ -1,10 +1,10 @@
 -- Which index is told of words that are no line.
-use Rattle.std.proofs.Common.{◌≡◌, ◌∙◌, ◌⊎◌, inl, inr, ℕ, zero, suc, ◌+◌, ◌^◌, ◌<◌, ◌≤◌, nat_eq, ne_eqb, decimal, Bool}
+use Rattle.std.proofs.Common.{◌≡◌, ◌∙◌, ℕ, zero, suc, ◌+◌, ◌^◌, ◌<◌, ◌≤◌, nat_eq, ne_eqb, decimal, Bool}
 use Rattle.std.proofs.Common.{true, false, cond, ◌&&◌, ◌||◌, not, nat_le, List, [], ◌∷◌, ◌++◌, length, take, count_by}
 use Rattle.std.proofs.Common.{codes, Option, Some, None, Result, Ok, Err, refl, ap, sym, subst, arith, append_assoc}
 use Rattle.std.proofs.Common.{add-one, add-zero}
 use Rattle.std.specs.Bool.{if◌then◌else◌}
-use Rattle.std.specs.List.{flat_map, list_any, list_all}
+use Rattle.std.specs.List.{flat_map, list_any}
 use Rattle.std.specs.Option.{is_some}
 use Rattle.std.specs.Str.{bytes_eq}
 use Rattle.std.proofs.lemmas.Bool.{le-leb, leb-false}
@@ -13,21 +13,21 @@ use Rattle.std.proofs.lemmas.List.Folds.{list_any-append}
 use Rattle.std.proofs.lemmas.List.Sums.{fold-append}
 use Rattle.ilc.specs.Grammar.{option_row, command_row, is_name, is_name_item, gives, writes_to, is_output, is_given}
 use Rattle.ilc.specs.Grammar.{fits, may_be_given, has_room, option_named, command_named, item_words, Has, MayFollow}
-use Rattle.ilc.specs.Grammar.{EachMayFollow, is_whole, number_of}
-use Rattle.ilc.specs.Words.{reading, with_item, begun, with_option, with_argument, with_word, ended, go_on, items_from}
+use Rattle.ilc.specs.Grammar.{EachMayFollow, is_whole}
+use Rattle.ilc.specs.Words.{reading, with_item, begun, with_option, with_word, ended, go_on, items_from}
 use Rattle.ilc.specs.Words.{command_from, asked_for, behind_command, command_of, AsksFor, IsFirstWrong}
 use Rattle.ilc.specs.declared.command.Command.{Command}
 use Rattle.ilc.specs.declared.grammar.Argument.{Argument}
 use Rattle.ilc.specs.declared.grammar.Argument.TheVariants.{Nothing, Output, Number}
 use Rattle.ilc.specs.declared.grammar.CommandName.{CommandName}
-use Rattle.ilc.specs.declared.grammar.CommandName.TheVariants.{Body, Run, Dis}
+use Rattle.ilc.specs.declared.grammar.CommandName.TheVariants.{Body, Run, Dis, Asm}
 use Rattle.ilc.specs.declared.grammar.CommandOption.{CommandOption}
 use Rattle.ilc.specs.declared.grammar.CommandOption.TheVariants.{Out, Steps, Count}
 use Rattle.ilc.specs.declared.grammar.Item.{Item}
 use Rattle.ilc.specs.declared.grammar.Item.TheVariants.{Name, Switch, Setting}
 use Rattle.ilc.specs.declared.reading.Reading.{Reading}
 use Rattle.ilc.proofs.NumberOf.{spells}
-use Rattle.ilc.proofs.WordLemmas.{some_of, both, and_true, spelled_so, same_word, reads_line, accepted_is_line}
+use Rattle.ilc.proofs.WordLemmas.{some_of, and_true, spelled_so, same_word, reads_line, accepted_is_line}
 use Rattle.ilc.proofs.WordLemmas.{line_is_accepted}
 
 -- ---- an option waits for an argument that it takes
@@ -187,30 +187,45 @@ ends_plain of most plain items false e =
     (refl, ap (λ m. has_room m (count_by is_name_item items)) most ∙ room_for_one (count_by is_name_item items) e)
     (ends_whole of more (plain more ∙ and_true (nat_le 1 (count_by is_name_item more)) true (one_name items) refl))
 
-ends_output : (items : List Item) → nat_le 1 (count_by is_name_item items) ≡ true → (b : Bool) → is_given Out items ≡ b
-    → Ends Body items
-ends_output items names true e =
-    ends_whole Body items (and_true (nat_le 1 (count_by is_name_item items)) (is_given Out items && true) names
-    (and_true (is_given Out items) true e refl))
-ends_output items names false e =
+-- of a command that wants one name and an output
+abbrev pub WantsOutput : CommandName → Type 0
+WantsOutput of =
+    Has of Out × ((command_row of).most ≡ Some 1)
+    × ((items : List Item) → is_whole of items
+    ≡ (nat_le 1 (count_by is_name_item items) && (is_given Out items && true)))
+
+ends_output : (of : CommandName) → WantsOutput of → (items : List Item)
+    → nat_le 1 (count_by is_name_item items) ≡ true → (b : Bool) → is_given Out items ≡ b → Ends of items
+ends_output of wants items names true e =
+    ends_whole of items (wants.2 items ∙ and_true (nat_le 1 (count_by is_name_item items)) (is_given Out items && true)
+    names (and_true (is_given Out items) true e refl))
+ends_output of wants items names false e =
     let v = value_for Out items Output refl tt in
     let item : Item = Setting Out v.0 in
-    ends_item Body items item (refl, v.1, ap (λ b. false || not b) e)
-    (ends_whole Body (items ++ item ∷ [])
-    (and_true (nat_le 1 (count_by is_name_item (items ++ item ∷ []))) (is_given Out (items ++ item ∷ []) && true)
+    let more : List Item = items ++ item ∷ [] in
+    ends_item of items item (wants.0, v.1, ap (λ b. false || not b) e)
+    (ends_whole of more (wants.2 more
+    ∙ and_true (nat_le 1 (count_by is_name_item more)) (is_given Out more && true)
     (ap (nat_le 1) (count_same items item refl) ∙ names)
-    (and_true (is_given Out (items ++ item ∷ [])) true (given_new Out items item refl) refl)))
+    (and_true (is_given Out more) true (given_new Out items item refl) refl)))
 
-ends_body : (items : List Item) (b : Bool) → nat_le 1 (count_by is_name_item items) ≡ b → Ends Body items
-ends_body items true e = ends_output items e (is_given Out items) refl
-ends_body items false e =
-    ends_item Body items (Name (codes "a")) (refl, room_for_one (count_by is_name_item items) e)
-    (ends_output (items ++ Name (codes "a") ∷ []) (one_name items) (is_given Out (items ++ Name (codes "a") ∷ [])) refl)
+ends_named : (of : CommandName) → WantsOutput of → (items : List Item) (b : Bool)
+    → nat_le 1 (count_by is_name_item items) ≡ b → Ends of items
+ends_named of wants items true e = ends_output of wants items e (is_given Out items) refl
+ends_named of wants items false e =
+    let more : List Item = items ++ Name (codes "a") ∷ [] in
+    ends_item of items (Name (codes "a")) (
+      refl,
+      ap (λ m. has_room m (count_by is_name_item items)) wants.1
+          ∙ room_for_one (count_by is_name_item items) e,
+    )
+    (ends_output of wants more (one_name items) (is_given Out more) refl)
 
 ends : (of : CommandName) (items : List Item) → Ends of items
-ends Body items = ends_body items (nat_le 1 (count_by is_name_item items)) refl
+ends Body items = ends_named Body (refl, refl, λ all. refl) items (nat_le 1 (count_by is_name_item items)) refl
 ends Run items = ends_plain Run refl (λ all. refl) items (nat_le 1 (count_by is_name_item items)) refl
 ends Dis items = ends_plain Dis refl (λ all. refl) items (nat_le 1 (count_by is_name_item items)) refl
+ends Asm items = ends_named Asm (refl, refl, λ all. refl) items (nat_le 1 (count_by is_name_item items)) refl
 
 completes : (of : CommandName) (at : ℕ) (items : List Item) (awaits : Option CommandOption) → IsReady of items awaits
     → (rest : List (List ℕ)) × (all : List Item) × (items_from of at (reading items awaits) rest ≡ Ok all)
@@ -305,6 +320,7 @@ commands_are_named : (of : CommandName) → command_named (command_row of).name 
 commands_are_named Body = refl
 commands_are_named Run = refl
 commands_are_named Dis = refl
+commands_are_named Asm = refl
 
 -- there is a line
 a_line : (rest : List (List ℕ)) × (asked : Command) × AsksFor rest asked

@@ -1,22 +1,22 @@
 -- What the reading of words gives, and that it is the items of a line.
-use Rattle.std.proofs.Common.{◌≡◌, ◌∙◌, ◌⊎◌, inl, inr, ℕ, zero, suc, ◌+◌, ◌<◌, ◌≤◌, Bool, true, false, cond, ◌&&◌, ◌||◌}
-use Rattle.std.proofs.Common.{not, List, [], ◌∷◌, ◌++◌, length, count_by, Option, Some, None, Result, Ok, Err, refl, ap}
-use Rattle.std.proofs.Common.{sym, subst, arith, append_assoc}
+use Rattle.std.proofs.Common.{◌≡◌, ◌∙◌, ℕ, ◌+◌, Bool, true, false, cond, ◌&&◌}
+use Rattle.std.proofs.Common.{List, [], ◌∷◌, ◌++◌, count_by, Option, Some, None, Result, Ok, Err, refl, ap}
+use Rattle.std.proofs.Common.{sym, subst, append_assoc}
 use Rattle.std.specs.Bool.{if◌then◌else◌}
 use Rattle.std.specs.List.{find, flat_map}
 use Rattle.std.specs.Str.{bytes_eq}
 use Rattle.std.proofs.lemmas.List.{append-nil}
 use Rattle.std.proofs.lemmas.Slice.Eq.{bytes_eq-Decides}
-use Rattle.ilc.specs.Grammar.{option_row, command_row, commands, is_name, is_name_item, is_given, fits, may_be_given}
+use Rattle.ilc.specs.Grammar.{option_row, command_row, commands, is_name, is_name_item, fits, may_be_given}
 use Rattle.ilc.specs.Grammar.{has_room, option_named, command_named, item_words, Has, MayFollow, EachMayFollow}
-use Rattle.ilc.specs.Grammar.{is_whole, IsLine}
-use Rattle.ilc.specs.Words.{reading, with_item, begun, with_option, with_argument, with_word, ended, go_on, items_from}
+use Rattle.ilc.specs.Grammar.{is_whole}
+use Rattle.ilc.specs.Words.{reading, with_item, begun, with_option, with_argument, go_on, items_from}
 use Rattle.ilc.specs.Words.{command_from, asked_for, behind_command, command_of, AsksFor}
 use Rattle.ilc.specs.declared.command.Command.{Command}
 use Rattle.ilc.specs.declared.grammar.Argument.{Argument}
 use Rattle.ilc.specs.declared.grammar.Argument.TheVariants.{Nothing, Output, Number}
 use Rattle.ilc.specs.declared.grammar.CommandName.{CommandName}
-use Rattle.ilc.specs.declared.grammar.CommandName.TheVariants.{Body, Run, Dis}
+use Rattle.ilc.specs.declared.grammar.CommandName.TheVariants.{Body, Run, Dis, Asm}
 use Rattle.ilc.specs.declared.grammar.CommandOption.{CommandOption}
 use Rattle.ilc.specs.declared.grammar.CommandOption.TheVariants.{Out, Steps, Count}
 use Rattle.ilc.specs.declared.grammar.Item.{Item}
@@ -86,6 +86,7 @@ commands_are_named : (of : CommandName) → command_named (command_row of).name 
 commands_are_named Body = refl
 commands_are_named Run = refl
 commands_are_named Dis = refl
+commands_are_named Asm = refl
 
 -- ---- what was read are the items of a line
 

@@ -8,10 +8,12 @@ use Rattle.ilc_io.specs.Store.{Store, stored}
 use Rattle.il_code.specs.declared.body.Body.{Body}
 use Rattle.rv_step.specs.Machine.{MachineState, machine_run}
 use Rattle.md_tables.specs.Modules.{ModuleParts}
+use Rattle.md_write.specs.Written.{image_of}
 use Rattle.elf_file.specs.Elf.{loaded}
 use Rattle.ilc_build.specs.Bare.{ReadsBare}
 use Rattle.ilc_build.specs.Implements.{Builds}
 use Rattle.ilc_build.specs.declared.depths.Known.{Known}
+use Rattle.il_text.specs.Assembling.{assembled}
 use Rattle.il_text.specs.Listing.{listing_of}
 use Rattle.ilc.specs.Cause.{Cause, Assembles, file_limit, elf_limit}
 use Rattle.ilc.specs.Line.{status_of, line_of}
@@ -84,6 +86,24 @@ pub record HasAssembly (file : List ℕ) (told : Option Store) : Type 0 where
   pub size : length bytes ≤ file_limit
   pub m : ModuleParts
   pub assembles : Assembles bytes m
+
+-- The text of an assembly was read from the file FILE, and OUT now has the image of the module that it means.
+pub record HasImage (file out : List ℕ) (before now : Option Store) : Type 0 where
+  pub bytes : List ℕ
+  pub read : (store : Store) → before ≡ Some store → get store file ≡ Some bytes
+  pub m : ModuleParts
+  pub means : assembled bytes ≡ Ok m
+  pub written : now ≡ option_map (stored out (image_of m.entry m.user m.tables)) before
+
+-- the store tells that a file has the text of an assembly
+pub record HasText (file : List ℕ) (told : Option Store) : Type 0 where
+  pub store : Store
+  pub tells : told ≡ Some store
+  pub bytes : List ℕ
+  pub content : get store file ≡ Some bytes
+  pub size : length bytes ≤ file_limit
+  pub m : ModuleParts
+  pub means : assembled bytes ≡ Ok m
 
 -- no fault of the store was counted
 abbrev pub NoneCounted : StoreSeen → StoreSeen → Type 0

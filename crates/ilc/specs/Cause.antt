@@ -14,16 +14,18 @@ use Rattle.pe_image.specs.Conditions.{first_fault}
 use Rattle.pe_image.specs.Pe.{conditions, parts_of}
 use Rattle.md_tables.specs.Finished.{module_of}
 use Rattle.md_tables.specs.Modules.{ModuleParts}
+use Rattle.md_write.specs.Written.{image_of}
+use Rattle.il_text.specs.Assembling.{assembled}
 use Rattle.il_text.specs.Listing.{listing_of}
 use Rattle.elf_file.specs.Elf.{loaded}
 use Rattle.ilc_build.specs.Implements.{Builds}
 use Rattle.ilc.specs.Line.{count_line}
 use Rattle.ilc.specs.Printed.{Prints, BreaksOff, Writes, WritesFront}
 use Rattle.ilc.specs.Seen.{StoreSeen, StreamsSeen}
-use Rattle.ilc.specs.Stages.{Stage, body_stages, elf_stages, assembly_stages, IsRefused}
+use Rattle.ilc.specs.Stages.{Stage, body_stages, elf_stages, assembly_stages, text_stages, IsRefused}
 use Rattle.ilc.specs.Words.{command_of}
 use Rattle.ilc.specs.declared.command.Command.{Command}
-use Rattle.ilc.specs.declared.command.Command.TheVariants.{Body, Run, Dis}
+use Rattle.ilc.specs.declared.command.Command.TheVariants.{Body, Run, Dis, Asm}
 use Rattle.ilc.specs.declared.outcome.Outcome.{Outcome}
 use Rattle.ilc.specs.declared.outcome.Outcome.TheVariants.{Usage, NoFile, TooLong, Refused, ReadFault, WriteFault}
 use Rattle.ilc.specs.declared.outcome.Outcome.TheVariants.{Ended, Written, Memory}
@@ -86,17 +88,17 @@ NotTaken stages name limit before now WriteFault = ⊥
 NotTaken stages name limit before now (Ended status) = ⊥
 NotTaken stages name limit before now Written = ⊥
 
--- ---- `body FILE -o OUT`
+-- ---- a file that is made of another
 
 -- the most bytes that a file other than an executable may have
 abbrev pub file_limit : ℕ
 file_limit = 16777216
 
--- a bare body was read from a file, and the executable file `elf` does what it does
-pub record IsBuilt (file elf : List ℕ) (before now : StoreSeen) : Type 0 where
+-- A file was read, and these bytes were made of its bytes; `Makes` says what may be made of them.
+pub record IsMade (Makes : List ℕ → List ℕ → Type 0) (file made : List ℕ) (before now : StoreSeen) : Type 0 where
   pub bytes : List ℕ
   pub read : IsRead file file_limit bytes before now
-  pub builds : Builds bytes elf
+  pub makes : Makes bytes made
   pub same_files : SameFiles before now
   pub write_faults : now.write_faults ≡ before.write_faults
 
@@ -106,33 +108,49 @@ HasBegun size before now = (now.calls ≡ before.calls) ⊎ WritesInPieces size 
 
 -- When each outcome comes of the bytes that are to be written to a file.
 abbrev pub WriteOutcome : List ℕ → List ℕ → StoreSeen → StoreSeen → Outcome → Type 0
-WriteOutcome out elf before now Written =
-    (now.told ≡ option_map (stored out elf) before.told) × WritesInPieces (length elf) before.calls now.calls
-WriteOutcome out elf before now WriteFault =
-    HasRisen before.write_faults now.write_faults × IsPartlyStored out elf before.told now.told
-    × HasBegun (length elf) before now
-WriteOutcome out elf before now Memory =
-    IsPartlyStored out elf before.told now.told × HasBegun (length elf) before now
-WriteOutcome out elf before now (Usage index) = ⊥
-WriteOutcome out elf before now (NoFile file) = ⊥
-WriteOutcome out elf before now (TooLong size) = ⊥
-WriteOutcome out elf before now (Refused refusal) = ⊥
-WriteOutcome out elf before now ReadFault = ⊥
-WriteOutcome out elf before now (Ended status) = ⊥
+WriteOutcome out made before now Written =
+    (now.told ≡ option_map (stored out made) before.told) × WritesInPieces (length made) before.calls now.calls
+WriteOutcome out made before now WriteFault =
+    HasRisen before.write_faults now.write_faults × IsPartlyStored out made before.told now.told
+    × HasBegun (length made) before now
+WriteOutcome out made before now Memory =
+    IsPartlyStored out made before.told now.told × HasBegun (length made) before now
+WriteOutcome out made before now (Usage index) = ⊥
+WriteOutcome out made before now (NoFile file) = ⊥
+WriteOutcome out made before now (TooLong size) = ⊥
+WriteOutcome out made before now (Refused refusal) = ⊥
+WriteOutcome out made before now ReadFault = ⊥
+WriteOutcome out made before now (Ended status) = ⊥
 
--- a body was built, and its executable file was written or not; `size` wasn't asked again
-pub record IsTaken (file out : List ℕ) (before now : StoreSeen) (outcome : Outcome) : Type 0 where
-  pub elf : List ℕ
+-- a file was made of another, and was written or not; `size` wasn't asked again
+pub record IsTaken (Makes : List ℕ → List ℕ → Type 0) (file out : List ℕ) (before now : StoreSeen) (outcome : Outcome) :
+    Type 0 where
+  pub made : List ℕ
   pub between : StoreSeen
-  pub built : IsBuilt file elf before between
-  pub writes : WriteOutcome out elf between now outcome
+  pub is_made : IsMade Makes file made before between
+  pub writes : WriteOutcome out made between now outcome
   pub same_asked : now.asked ≡ between.asked
 
--- Either the body wasn't built, and no file has changed, or it was, and its file was written or not.
+-- Either nothing was made of the file, and no file has changed, or another was made of it, and was written or not.
+abbrev pub MakingOutcome : (List ℕ → List ℕ → Type 0) → List Stage → List ℕ → List ℕ → StoreSeen → StoreSeen → Outcome
+    → Type 0
+MakingOutcome Makes stages file out before now outcome =
+    (NotTaken stages file file_limit before now outcome × SameFiles before now)
+    ⊎ IsTaken Makes file out before now outcome
+
+-- `body FILE -o OUT`: the executable file does what the bare body does
 abbrev pub BodyOutcome : List ℕ → List ℕ → StoreSeen → StoreSeen → Outcome → Type 0
-BodyOutcome file out before now outcome =
-    (NotTaken body_stages file file_limit before now outcome × SameFiles before now)
-    ⊎ IsTaken file out before now outcome
+BodyOutcome = MakingOutcome Builds body_stages
+
+-- the image of the module that a text means
+pub record IsImageOf (text image : List ℕ) : Type 0 where
+  pub m : ModuleParts
+  pub means : assembled text ≡ Ok m
+  pub written : image ≡ image_of m.entry m.user m.tables
+
+-- `asm FILE -o OUT`: the image is that of the module
+abbrev pub AsmOutcome : List ℕ → List ℕ → StoreSeen → StoreSeen → Outcome → Type 0
+AsmOutcome = MakingOutcome IsImageOf text_stages
 
 -- ---- `run ELF --steps N --count`
 
@@ -250,6 +268,8 @@ CommandOutcome (Ok (Run elf steps count)) before now streams streams' outcome =
     RunOutcome elf steps count before now streams streams' outcome × SameFiles before now
 CommandOutcome (Ok (Dis file)) before now streams streams' outcome =
     DisOutcome file before now streams streams' outcome × SameFiles before now
+CommandOutcome (Ok (Asm file out)) before now streams streams' outcome =
+    AsmOutcome file out before now outcome × (streams' ≡ streams)
 
 -- the cause of an outcome
 abbrev pub Cause : List (List ℕ) → StoreSeen → StoreSeen → StreamsSeen → StreamsSeen → Outcome → Type 0

@@ -1,7 +1,7 @@
 -- What the words of a command line may be. An option may take the word behind it as its argument, as POSIX has it
 -- ("Utility Conventions"); any other word is a name.
-use Rattle.std.specs.Prelude.{◌≡◌, ℕ, ◌<◌, Bool, true, false, not, ◌&&◌, ◌||◌, ◌==◌, nat_le, nat_lt, if◌then◌else◌}
-use Rattle.std.specs.Prelude.{IsTrue, List, [], ◌∷◌, ◌++◌, length, count_by, codes, decimal, Option, Some, None}
+use Rattle.std.specs.Prelude.{◌≡◌, ℕ, Bool, true, false, not, ◌&&◌, ◌||◌, ◌==◌, nat_le, nat_lt, if◌then◌else◌}
+use Rattle.std.specs.Prelude.{List, [], ◌∷◌, ◌++◌, length, count_by, codes, decimal, Option, Some, None}
 use Rattle.std.specs.Prelude.{is_some}
 use Rattle.std.specs.List.{find, flat_map, list_any, list_all}
 use Rattle.std.specs.Str.{bytes_eq}
@@ -9,7 +9,7 @@ use Rattle.std.specs.Str.Parse.{digits_value}
 use Rattle.ilc.specs.declared.grammar.Argument.{Argument}
 use Rattle.ilc.specs.declared.grammar.Argument.TheVariants.{Nothing, Output, Number}
 use Rattle.ilc.specs.declared.grammar.CommandName.{CommandName}
-use Rattle.ilc.specs.declared.grammar.CommandName.TheVariants.{Body, Run, Dis}
+use Rattle.ilc.specs.declared.grammar.CommandName.TheVariants.{Body, Run, Dis, Asm}
 use Rattle.ilc.specs.declared.grammar.CommandOption.{CommandOption}
 use Rattle.ilc.specs.declared.grammar.CommandOption.TheVariants.{Out, Steps, Count}
 use Rattle.ilc.specs.declared.grammar.Item.{Item}
@@ -52,9 +52,10 @@ abbrev pub command_row : CommandName → CommandRow
 command_row Body = command (codes "body") 1 (Some 1) (Out ∷ []) (Out ∷ [])
 command_row Run = command (codes "run") 1 (Some 1) (Steps ∷ Count ∷ []) []
 command_row Dis = command (codes "dis") 1 (Some 1) [] []
+command_row Asm = command (codes "asm") 1 (Some 1) (Out ∷ []) (Out ∷ [])
 
 abbrev pub commands : List CommandName
-commands = Body ∷ Run ∷ Dis ∷ []
+commands = Body ∷ Run ∷ Dis ∷ Asm ∷ []
 
 -- ---- names and arguments
 

@@ -7,9 +7,10 @@ use Rattle.pe_image.specs.Conditions.{first_fault}
 use Rattle.pe_image.specs.Pe.{conditions, parts_of}
 use Rattle.md_tables.specs.Finished.{module_of, Refuses}
 use Rattle.md_tables.specs.declared.fault.TableFault.{TableFault}
+use Rattle.il_text.specs.declared.fault.IlTextFault.{IlTextFault}
 use Rattle.ilc_build.specs.Refusals.{NotBare}
 use Rattle.ilc_build.specs.declared.build.BuildFault.{BuildFault}
-use Rattle.ilc.specs.Stages.{Finding, body_stages, assembly_stages, table_finding, refusal_of, IsRefused}
+use Rattle.ilc.specs.Stages.{Finding, body_stages, assembly_stages, table_finding, text_finding, refusal_of, IsRefused}
 use Rattle.ilc.specs.declared.perform.AssemblyFault.{AssemblyFault}
 use Rattle.ilc.specs.declared.perform.AssemblyFault.TheVariants.{Image as ImageFault, Tables as TablesFault}
 use Rattle.ilc.specs.declared.outcome.Outcome.{Outcome}
@@ -54,3 +55,7 @@ IsUnreadable bytes file fault outcome =
     IsNoAssembly bytes fault
     → (outcome ≡ Memory) ⊎ ((refusal : Refusal) × (outcome ≡ Refused refusal) × IsRefused assembly_stages file bytes
     refusal)
+
+-- why a text means no module is told, or memory was wanting
+abbrev pub TellsText : List ℕ → IlTextFault → Outcome → Type 0
+TellsText file fault = Tells file (text_finding fault)

@@ -1,9 +1,9 @@
 -- The refusals of input, as a table.
-use Rattle.std.specs.Prelude.{◌≡◌, ℕ, Bool, true, false, ◌&&◌, IsTrue, List, [], ◌∷◌, codes}
+use Rattle.std.specs.Prelude.{ℕ, Bool, true, false, ◌&&◌, IsTrue, List, [], ◌∷◌, codes}
 use Rattle.ilc.specs.declared.refusal.Fault.{Fault}
 use Rattle.ilc.specs.declared.refusal.Fault.TheVariants.{NotPe, NoCliHeader, Cut, BadTable, RefusedTable}
 use Rattle.ilc.specs.declared.refusal.Fault.TheVariants.{BadHeader, BadOpcode, BadTarget, Unverified, Spent}
-use Rattle.ilc.specs.declared.refusal.Fault.TheVariants.{OpcodeOutside, Trap, BadElf}
+use Rattle.ilc.specs.declared.refusal.Fault.TheVariants.{OpcodeOutside, Trap, BadElf, BadText}
 use Rattle.ilc.specs.declared.refusal.Field.{Field}
 use Rattle.ilc.specs.declared.refusal.Field.TheVariants.{Text, Number, Address, Cause}
 use Rattle.ilc.specs.declared.refusal.Fields.{Fields}
@@ -42,6 +42,7 @@ refusal_row Spent = row 21 (codes "Spent") 124 (OfNumber ∷ [])
 refusal_row OpcodeOutside = row 24 (codes "OpcodeOutside") 69 (OfItem ∷ OfNumber ∷ [])
 refusal_row Trap = row 29 (codes "Trap") 132 (OfAddress ∷ OfCause ∷ [])
 refusal_row BadElf = row 30 (codes "BadElf") 65 (OfFile ∷ OfNumber ∷ [])
+refusal_row BadText = row 31 (codes "BadText") 65 (OfFile ∷ OfNumber ∷ OfNumber ∷ [])
 
 -- the fields in a list
 abbrev pub listed_fields : Fields → List Field

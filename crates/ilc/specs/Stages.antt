@@ -12,6 +12,9 @@ use Rattle.md_tables.specs.Finished.{module_of}
 use Rattle.md_tables.specs.declared.fault.TableFault.{TableFault}
 use Rattle.md_tables.specs.declared.fault.TableFault.TheVariants.{BadTable as BadRow, RefusedTable as RefusedRows}
 use Rattle.md_tables.specs.declared.fault.TableFault.TheVariants.{BadHeader as BadBody, Memory as NoMemory}
+use Rattle.il_text.specs.Assembling.{assembled}
+use Rattle.il_text.specs.declared.fault.IlTextFault.{IlTextFault}
+use Rattle.il_text.specs.declared.fault.IlTextFault.TheVariants.{BadText as BadWord, Memory as WantsMemory}
 use Rattle.elf_file.specs.Elf.{loaded}
 use Rattle.ilc_build.specs.Bare.{first_past}
 use Rattle.ilc_build.specs.Depths.{IsLeast, first_against, has_operation, is_verified_at}
@@ -21,6 +24,7 @@ use Rattle.ilc.specs.Refusals.{Form, OfItem, refusal_row}
 use Rattle.ilc.specs.declared.refusal.Fault.{Fault}
 use Rattle.ilc.specs.declared.refusal.Fault.TheVariants.{NotPe, NoCliHeader, Cut, BadTable, RefusedTable, BadHeader}
 use Rattle.ilc.specs.declared.refusal.Fault.TheVariants.{BadOpcode, BadTarget, Unverified, OpcodeOutside, BadElf}
+use Rattle.ilc.specs.declared.refusal.Fault.TheVariants.{BadText}
 use Rattle.ilc.specs.declared.refusal.Field.TheVariants.{Text, Number}
 use Rattle.ilc.specs.declared.refusal.Fields.{Fields}
 use Rattle.ilc.specs.declared.refusal.Fields.TheVariants.{One, Two, Three}
@@ -28,7 +32,7 @@ use Rattle.ilc.specs.declared.refusal.Refusal.{Refusal}
 
 -- Of a body: the tiny header and its code, instructions that stand whole, targets, control that stays in the code,
 -- opcodes that are compiled, and the stack. Of an executable file: that it loads. Of an assembly: its headers, sections
--- and streams, and then its tables with the bodies of methods.
+-- and streams, and then its tables with the bodies of methods. Of a text: that it is that of an assembly.
 pub data Stage : Type 0 where
   Header : Stage
   Opcodes : Stage
@@ -39,6 +43,7 @@ pub data Stage : Type 0 where
   Load : Stage
   Image : Stage
   Tables : Stage
+  Lines : Stage
 
 abbrev pub body_stages : List Stage
 body_stages = Header ∷ Opcodes ∷ Targets ∷ Flow ∷ Operations ∷ Verification ∷ []
@@ -48,6 +53,9 @@ elf_stages = Load ∷ []
 
 abbrev pub assembly_stages : List Stage
 assembly_stages = Image ∷ Tables ∷ []
+
+abbrev pub text_stages : List Stage
+text_stages = Lines ∷ []
 
 -- ---- what a stage finds
 
@@ -86,6 +94,15 @@ abbrev pub refused_tables : {X : Type 0} → Result X TableFault → Option Find
 refused_tables (Ok x) = NoFault
 refused_tables (Err fault) = table_finding fault
 
+-- what is found of a text; that memory was wanting is no finding
+abbrev pub text_finding : IlTextFault → Option Finding
+text_finding (BadWord line column) = Some (finding BadText (line ∷ column ∷ []))
+text_finding WantsMemory = NoFault
+
+abbrev pub refused_text : {X : Type 0} → Result X IlTextFault → Option Finding
+refused_text (Ok x) = NoFault
+refused_text (Err fault) = text_finding fault
+
 -- this holds of the code behind the tiny header
 abbrev pub OfCode : List ℕ → (List ℕ → Type 0) → Type 0
 OfCode bytes P = (code : List ℕ) × (tiny_body bytes ≡ Ok code) × P code
@@ -112,6 +129,7 @@ Finds Verification bytes found =
 Finds Load bytes found = refused_at BadElf (loaded bytes) ≡ found
 Finds Image bytes found = option_map image_finding (first_fault (conditions bytes)) ≡ found
 Finds Tables bytes found = refused_tables (module_of (parts_of bytes)) ≡ found
+Finds Lines bytes found = refused_text (assembled bytes) ≡ found
 
 -- the first of the stages that finds a fault finds this one
 abbrev pub IsFirst : List Stage → List ℕ → Finding → Type 0

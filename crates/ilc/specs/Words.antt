@@ -1,15 +1,15 @@
 -- How the words of the command line are read: from the left, and the first that is wrong is told by its index.
-use Rattle.std.specs.Prelude.{◌≡◌, ℕ, ◌+◌, ◌<◌, ◌≤◌, Bool, true, false, ◌&&◌, if◌then◌else◌, List, [], ◌∷◌, ◌++◌}
-use Rattle.std.specs.Prelude.{length, count_by, take, drop, Option, Some, None, unwrap_or, Result, Ok, Err}
+use Rattle.std.specs.Prelude.{◌≡◌, ℕ, ◌+◌, ◌<◌, ◌≤◌, ◌&&◌, if◌then◌else◌, List, [], ◌∷◌, ◌++◌}
+use Rattle.std.specs.Prelude.{length, count_by, take, Option, Some, None, unwrap_or, Result, Ok, Err}
 use Rattle.ilc.specs.Grammar.{option_row, command_row, is_name, is_name_item, number_of, most_steps, gives, is_given}
 use Rattle.ilc.specs.Grammar.{fits, may_be_given, has_room, option_named, command_named, is_whole, IsLine}
 use Rattle.ilc.specs.declared.command.Command.{Command}
 use Rattle.ilc.specs.declared.command.Command.TheVariants.{Body as BodyCommand, Run as RunCommand}
-use Rattle.ilc.specs.declared.command.Command.TheVariants.{Dis as DisCommand}
+use Rattle.ilc.specs.declared.command.Command.TheVariants.{Dis as DisCommand, Asm as AsmCommand}
 use Rattle.ilc.specs.declared.grammar.Argument.{Argument}
 use Rattle.ilc.specs.declared.grammar.Argument.TheVariants.{Nothing, Output, Number}
 use Rattle.ilc.specs.declared.grammar.CommandName.{CommandName}
-use Rattle.ilc.specs.declared.grammar.CommandName.TheVariants.{Body, Run, Dis}
+use Rattle.ilc.specs.declared.grammar.CommandName.TheVariants.{Body, Run, Dis, Asm}
 use Rattle.ilc.specs.declared.grammar.CommandOption.{CommandOption}
 use Rattle.ilc.specs.declared.grammar.CommandOption.TheVariants.{Out, Steps, Count}
 use Rattle.ilc.specs.declared.grammar.Item.{Item}
@@ -94,6 +94,7 @@ command_from Run items =
     RunCommand (first_name items) (unwrap_or (number_of most_steps (argument_of Steps items)) default_steps)
     (is_given Count items)
 command_from Dis items = DisCommand (first_name items)
+command_from Asm items = AsmCommand (first_name items) (argument_of Out items)
 
 abbrev pub asked_for : CommandName → Result (List Item) ℕ → Result Command ℕ
 asked_for of (Ok items) = Ok (command_from of items)

@@ -23,6 +23,8 @@ pub enum Command {
     Run { elf: Text, steps: u64, count: bool },
     /// `dis FILE`: prints the text of the assembly in FILE.
     Dis { file: Text },
+    /// `asm FILE -o OUT`: writes the image of the assembly whose text is in FILE to OUT.
+    Asm { file: Text, out: Text },
 }
 
 /// The command that the words give.
@@ -60,6 +62,10 @@ fn command_from(alloc: Global, command: CommandName, items: &[Item]) -> Result<C
             count: is_given(items, CommandOption::Count),
         }),
         CommandName::Dis => Ok(Command::Dis { file: name }),
+        CommandName::Asm => Ok(Command::Asm {
+            file: name,
+            out: copied(alloc, argument_of(items, CommandOption::Out))?,
+        }),
     }
 }
 

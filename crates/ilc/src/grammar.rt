@@ -17,6 +17,7 @@ pub enum CommandName {
     Body,
     Run,
     Dis,
+    Asm,
 }
 
 /// The options of the commands.
@@ -136,6 +137,13 @@ impl CommandName {
                 options: &[],
                 required: &[],
             },
+            CommandName::Asm => CommandRow {
+                name: b"asm",
+                least: 1,
+                most: Some(1),
+                options: &[CommandOption::Out],
+                required: &[CommandOption::Out],
+            },
         }
     }
 
@@ -201,10 +209,15 @@ impl Argument {
 pub(crate) fn command_named(word: &Text) -> Option<CommandName>
     ensures { result ≡ command_of_name word.now }
 {
-    [CommandName::Body, CommandName::Run, CommandName::Dis]
-        .iter()
-        .copied()
-        .find(|command| command.is_written(word.bytes()))
+    [
+        CommandName::Body,
+        CommandName::Run,
+        CommandName::Dis,
+        CommandName::Asm,
+    ]
+    .iter()
+    .copied()
+    .find(|command| command.is_written(word.bytes()))
 }
 
 /// The option of a command that a word is.

@@ -1,4 +1,5 @@
-//! `ilc` compiles a CIL method body to an executable file for RV64IM, and runs such a file on a machine.
+//! `ilc` compiles a CIL method body to an executable file for RV64IM, runs such a file on a machine, and prints
+//! assemblies as text and makes them of it.
 #![tactic(auto)]
 
 mod command;

@@ -21,7 +21,7 @@ pub enum Outcome {
     WriteFault,
     /// The program has ended.
     Ended { status: u8 },
-    /// The executable file was written.
+    /// The file that was to be made was written, or the text was printed.
     Written,
     Memory,
 }

@@ -1,11 +1,15 @@
 ghost use Rattle.std.specs.Prelude.{◌≡◌, ℕ, List, ◌∷◌, [], ◌<◌, ◌≤◌, ◌^◌, length, Option, IfOk, IfErr};
 ghost use Rattle.ilc.specs.Seen.{store_seen, streams_seen};
-ghost use Rattle.ilc.specs.Cause.{NotTaken, IsRead, IsBuilt, WriteOutcome, BodyOutcome, IsLoaded, MachineOutcome};
-ghost use Rattle.ilc.specs.Cause.{Cause, Assembles, IsAssembly, DisOutcome, TextOutcome};
-ghost use Rattle.ilc.specs.Stages.{Stage, body_stages, elf_stages, assembly_stages, fault_of, fields_of};
+ghost use Rattle.il_text.specs.Assembling.{assembled};
+ghost use Rattle.il_text.specs.Reading.{Refuses};
+ghost use Rattle.ilc_build.specs.Implements.{Builds};
+ghost use Rattle.ilc.specs.Cause.{NotTaken, IsRead, IsMade, WriteOutcome, BodyOutcome, IsLoaded, MachineOutcome};
+ghost use Rattle.ilc.specs.Cause.{Cause, Assembles, IsAssembly, DisOutcome, TextOutcome, IsImageOf, AsmOutcome};
+ghost use Rattle.ilc.specs.Stages.{Stage, body_stages, elf_stages, assembly_stages, text_stages, fault_of, fields_of};
 ghost use Rattle.ilc.specs.Stages.{refusal_of, image_finding};
 ghost use Rattle.ilc.specs.Stages.{body_method as body_method_text};
 ghost use Rattle.ilc.specs.Reading.{IsRefusedBy, IsNoAssembly, IsUnreadable, TellsTables, IsOrMemory, ReadGives};
+ghost use Rattle.ilc.specs.Reading.{TellsText};
 ghost use Rattle.ilc.specs.declared.outcome.Outcome.TheVariants.{Refused};
 
 use crate::command::{Command, parse_command};
@@ -14,10 +18,11 @@ use crate::reading::{WordsFault, copied};
 use crate::refusal::{Fault, Field, Fields, Refusal};
 use crate::report::{report_count, write_all};
 use elf_file::{ElfFault, load_elf};
-use il_text::list;
+use il_text::{IlTextFault, assemble, list};
 use ilc_build::{BuildFault, build_body};
 use ilc_io::{FileFault, Files, Sink, Source, read_file, write_file};
 use md_tables::{Module, TableFault, read_tables};
+use md_write::write_image;
 use num_core::{Bytes, Text};
 use pe_image::{PeFault, open_image};
 use rv_step::{Machine, RunFault};
@@ -57,6 +62,7 @@ pub(crate) fn perform<F: Files, I: Source, O: Sink, E: Sink>(
             Ok(mut machine) => run(&mut machine, input, out, err, steps, count),
             Err(outcome) => outcome,
         },
+        Ok(Command::Asm { file, out: target }) => asm(alloc, files, &file, &target),
         Ok(Command::Dis { file }) => dis(alloc, files, out, &file),
     }
 }
@@ -78,7 +84,7 @@ fn body<F: Files>(alloc: Global, files: &mut F, file: &Text, out: &Text) -> Outc
 
 /// Builds the body in a file.
 fn build<F: Files>(alloc: Global, files: &mut F, file: &Text) -> Result<Bytes, Outcome>
-    ensures built { IfOk result (λ elf. IsBuilt file.now elf
+    ensures built { IfOk result (λ elf. IsMade Builds file.now elf
         (store_seen (F.told files.old) (F.asked files.old) (F.calls files.old) (F.read_faults files.old)
         (F.write_faults files.old))
         (store_seen (F.told files.new) (F.asked files.new) (F.calls files.new) (F.read_faults files.new)
@@ -221,9 +227,9 @@ fn fields(text: Text, numbers: &[u64]) -> Fields
     }
 }
 
-/// Writes an executable to a file.
-fn write<F: Files>(files: &mut F, out: &Text, elf: &[u8]) -> Outcome
-    ensures outcome { WriteOutcome out.now elf.now
+/// Writes a whole file.
+fn write<F: Files>(files: &mut F, out: &Text, bytes: &[u8]) -> Outcome
+    ensures outcome { WriteOutcome out.now bytes.now
         (store_seen (F.told files.old) (F.asked files.old) (F.calls files.old) (F.read_faults files.old)
         (F.write_faults files.old))
         (store_seen (F.told files.new) (F.asked files.new) (F.calls files.new) (F.read_faults files.new)
@@ -231,7 +237,7 @@ fn write<F: Files>(files: &mut F, out: &Text, elf: &[u8]) -> Outcome
         result }
     ensures same_asked { F.asked files.new ≡ F.asked files.old }
 {
-    match write_file(files, out, elf) {
+    match write_file(files, out, bytes) {
         Ok(()) => Outcome::Written,
         Err(FileFault::Failed) => Outcome::WriteFault,
         Err(_) => Outcome::Memory,
@@ -395,5 +401,77 @@ fn tables_outcome(alloc: Global, fault: TableFault, file: &Text) -> Outcome
             refused(alloc, Fault::BadHeader, file.bytes(), &[address as u64])
         }
         TableFault::Memory => Outcome::Memory,
+    }
+}
+
+/// Assembles the text in a file, and writes the image of its module to another.
+fn asm<F: Files>(alloc: Global, files: &mut F, file: &Text, out: &Text) -> Outcome
+    ensures { AsmOutcome file.now out.now
+        (store_seen (F.told files.old) (F.asked files.old) (F.calls files.old) (F.read_faults files.old)
+        (F.write_faults files.old))
+        (store_seen (F.told files.new) (F.asked files.new) (F.calls files.new) (F.read_faults files.new)
+        (F.write_faults files.new))
+        result }
+{
+    match image(alloc, files, file) {
+        Ok(image) => write(files, out, image.as_slice()),
+        Err(outcome) => outcome,
+    }
+}
+
+/// The image of the module that the text in a file means.
+fn image<F: Files>(alloc: Global, files: &mut F, file: &Text) -> Result<Bytes, Outcome>
+    ensures made { IfOk result (λ image. IsMade IsImageOf file.now image
+        (store_seen (F.told files.old) (F.asked files.old) (F.calls files.old) (F.read_faults files.old)
+        (F.write_faults files.old))
+        (store_seen (F.told files.new) (F.asked files.new) (F.calls files.new) (F.read_faults files.new)
+        (F.write_faults files.new))) }
+    ensures refused { IfErr result (NotTaken text_stages file.now FILE_LIMIT
+        (store_seen (F.told files.old) (F.asked files.old) (F.calls files.old) (F.read_faults files.old)
+        (F.write_faults files.old))
+        (store_seen (F.told files.new) (F.asked files.new) (F.calls files.new) (F.read_faults files.new)
+        (F.write_faults files.new))) }
+    ensures same_files { F.told files.new ≡ F.told files.old }
+{
+    let text = match read(alloc, files, file, FILE_LIMIT) {
+        Ok(text) => text,
+        Err(outcome) => return Err(outcome),
+    };
+    match image_meant(alloc, text.as_slice()) {
+        Ok(image) => Ok(image),
+        Err(fault) => Err(text_outcome(alloc, fault, file)),
+    }
+}
+
+/// The image of the module that a text means. Each row of a module has a line of its own, so a text that is read has no
+/// table with too many rows.
+fn image_meant(alloc: Global, text: &[u8]) -> Result<Bytes, IlTextFault>
+    ensures made { IfOk result (IsImageOf text.now) }
+    ensures refused { IfErr result (Refuses (assembled text.now)) }
+{
+    let assembly = match assemble(alloc, text) {
+        Ok(assembly) => assembly,
+        Err(fault) => return Err(fault),
+    };
+    match write_image(alloc, &assembly) {
+        Ok(image) => Ok(image),
+        Err(_) => Err(IlTextFault::Memory),
+    }
+}
+
+/// The outcome of a text that means no module.
+fn text_outcome(alloc: Global, fault: IlTextFault, file: &Text) -> Outcome
+    ensures { TellsText file.now fault result }
+{
+    match fault {
+        IlTextFault::BadText(line, column) => {
+            refused(
+                alloc,
+                Fault::BadText,
+                file.bytes(),
+                &[line as u64, column as u64],
+            )
+        }
+        IlTextFault::Memory => Outcome::Memory,
     }
 }

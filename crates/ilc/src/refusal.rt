@@ -33,6 +33,8 @@ pub enum Fault {
     Trap,
     /// A file is no executable that loads (System V gABI, "Object Files").
     BadElf,
+    /// A file is no text of an assembly.
+    BadText,
 }
 
 /// The number, the name and the status of a fault.
@@ -94,6 +96,7 @@ impl Fault {
             Fault::OpcodeOutside => row(24, b"OpcodeOutside", 69),
             Fault::Trap => row(29, b"Trap", 132),
             Fault::BadElf => row(30, b"BadElf", 65),
+            Fault::BadText => row(31, b"BadText", 65),
         }
     }
 }

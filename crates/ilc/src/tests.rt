@@ -84,6 +84,8 @@ run --steps 5 a --steps 6 = 64 ilc: usage 4
 dis = 64 ilc: usage 1
 dis F G = 64 ilc: usage 2
 dis -o F = 64 ilc: usage 1
+asm F = 64 ilc: usage 2
+asm F G -o OUT = 64 ilc: usage 2
  = 64 ilc: usage 0
 run OUT = 66 ilc: nofile OUT
 ";
@@ -117,6 +119,8 @@ run SIX --steps 5 = 124 ilc: 21 Spent 5
 run --count --steps 6 SIX = 7 steps 6
 dis F = 65 ilc: 1 NotPe F
 dis G = 66 ilc: nofile G
+asm F -o OUT = 65 ilc: 31 BadText F 1 1
+asm G -o OUT = 66 ilc: nofile G
 ";
 
 /// The same where calls of the store fail, which are counted from 0: of size, of reading, of creating, of appending.
@@ -161,6 +165,23 @@ ret
 .end x
 ";
 
+/// Texts, each behind its answer.
+static TEXTS: &str = "\
+0
+.entry 0
+.user x
+=65 ilc: 31 BadText T 1 1
+.row 99
+=65 ilc: 31 BadText T 3 6
+.entry 0
+.user x
+.row 99
+=65 ilc: 31 BadText T 2 1
+.entry 0
+=65 ilc: 31 BadText T 2 8
+.entry 0
+.user x";
+
 fn put(alloc: Global, files: &mut MemFiles, name: &str, digits: &str) -> Result<(), Fail> {
     let name = Text::new(alloc, name.as_bytes())?;
     let bytes = hex::decode(alloc, digits)?;
@@ -187,12 +208,13 @@ fn is_answer(status: u8, text: &[u8], answer: &str) -> bool {
     is_line && number.parse::<u8>().ok() == Some(status)
 }
 
-/// Whether the call with these words answers so, and prints nothing else. The writes of error text with the numbers
-/// in `failing` fail.
+/// Whether the call with these words prints this as output and answers so. The writes of error text with the numbers in
+/// `failing` fail.
 fn answers(
     alloc: Global,
     files: &mut MemFiles,
     line: &str,
+    printed: &str,
     answer: &str,
     failing: &[u64],
 ) -> Result<bool, Fail> {
@@ -208,7 +230,7 @@ fn answers(
         &mut out,
         &mut err,
     );
-    Ok(out.bytes().is_empty() && is_answer(status, err.bytes(), answer))
+    Ok(out.bytes() == printed.as_bytes() && is_answer(status, err.bytes(), answer))
 }
 
 /// Each of the calls answers so.
@@ -227,7 +249,7 @@ fn all_answer(
     for row in calls.lines() {
         let (words, answer) = row.split_once(" = ").ok_or("no answer")?;
         assert!(rt;
-            answers(alloc, &mut files, words, answer, failing_lines)?,
+            answers(alloc, &mut files, words, "", answer, failing_lines)?,
             "{row}"
         );
     }
@@ -239,8 +261,8 @@ fn builds_and_runs(alloc: Global, digits: &str, built: &str, ran: &str) -> Resul
     let mut files = MemFiles::new(alloc, &[])?;
     put(alloc, &mut files, "F", digits)?;
     Ok(
-        answers(alloc, &mut files, "body F -o OUT", built, &[])?
-            && answers(alloc, &mut files, "run OUT", ran, &[])?,
+        answers(alloc, &mut files, "body F -o OUT", "", built, &[])?
+            && answers(alloc, &mut files, "run OUT", "", ran, &[])?,
     )
 }
 
@@ -284,19 +306,7 @@ fn calls(rt: HostRuntime) -> Result<(), Fail> {
 fn is_listed(alloc: Global, digits: &str, text: &str, answer: &str) -> Result<bool, Fail> {
     let mut files = MemFiles::new(alloc, &[])?;
     put(alloc, &mut files, "M", digits)?;
-    let words = words_of(alloc, "dis M")?;
-    let mut input = MemSource::new(alloc, &[], &[])?;
-    let mut out = MemSink::new(alloc, &[])?;
-    let mut err = MemSink::new(alloc, &[])?;
-    let status = ilc(
-        alloc,
-        words.as_slice(),
-        &mut files,
-        &mut input,
-        &mut out,
-        &mut err,
-    );
-    Ok(out.bytes() == text.as_bytes() && is_answer(status, err.bytes(), answer))
+    answers(alloc, &mut files, "dis M", text, answer, &[])
 }
 
 /// The text of an assembly, and of its first 400 bytes, in which the one section isn't whole.
@@ -305,5 +315,31 @@ fn assemblies(rt: HostRuntime) -> Result<(), Fail> {
     assert!(rt; is_listed(rt.alloc(), ASSEMBLY, LISTING, "0")?);
     let front = ASSEMBLY.get(..800).ok_or("no front")?;
     assert!(rt; is_listed(rt.alloc(), front, "", "65 ilc: 3 Cut M 352")?);
+    Ok(())
+}
+
+/// Whether a text is assembled so, and what is there then is told: where it is an image, as the same text.
+fn is_assembled(alloc: Global, text: &str, answer: &str) -> Result<bool, Fail> {
+    let mut files = MemFiles::new(alloc, &[])?;
+    let name = Text::new(alloc, b"T")?;
+    files.put(&name, text.as_bytes())?;
+    let (told, told_answer) = if answer == "0" {
+        (text, "0")
+    } else {
+        ("", "66 ilc: nofile OUT")
+    };
+    Ok(
+        answers(alloc, &mut files, "asm T -o OUT", "", answer, &[])?
+            && answers(alloc, &mut files, "dis OUT", told, told_answer, &[])?,
+    )
+}
+
+#[test]
+fn texts(rt: HostRuntime) -> Result<(), Fail> {
+    for row in TEXTS.split('=') {
+        let (answer, text) = row.split_once('\n').ok_or("no text")?;
+        assert!(rt; is_assembled(rt.alloc(), text, answer)?, "{row}");
+    }
+    assert!(rt; is_assembled(rt.alloc(), LISTING, "0")?);
     Ok(())
 }

@@ -1,6 +1,6 @@
 ghost use Rattle.std.specs.Prelude.{◌≡◌, ◌⊎◌, ℕ, List, Bool, ◌≤◌, Ok};
 ghost use Rattle.ilc.specs.Answer.{Answers, HasWritten, HasBare, HasProgram, NoneCounted, NoneOfStreams};
-ghost use Rattle.ilc.specs.Answer.{HasListed, HasAssembly};
+ghost use Rattle.ilc.specs.Answer.{HasListed, HasAssembly, HasImage, HasText};
 ghost use Rattle.ilc.specs.Seen.{store_seen, streams_seen};
 ghost use Rattle.ilc.specs.Words.{command_of};
 
@@ -16,8 +16,9 @@ use std::alloc::Global;
 ///
 /// The words are those behind the program's name: `body FILE -o OUT` builds the bare body in FILE and writes an
 /// executable file to OUT, `run ELF --steps N --count` runs an executable file on the machine for at most N steps, and
-/// prints as error text how many it did to its end, and `dis FILE` prints the text of the assembly in FILE. A refusal
-/// prints one line as error text.
+/// prints as error text how many it did to its end, `dis FILE` prints the text of the assembly in FILE, and
+/// `asm FILE -o OUT` writes to OUT the image of the assembly whose text is in FILE. A refusal prints one line as error
+/// text.
 pub fn ilc<F: Files, I: Source, O: Sink, E: Sink>(
     alloc: Global,
     words: &[Text],
@@ -80,6 +81,20 @@ pub fn ilc<F: Files, I: Source, O: Sink, E: Sink>(
         (O.faults out.old) (E.faults err.old))
         (streams_seen (I.rest input.new) (O.written out.new) (E.written err.new) (I.faults input.new)
         (O.faults out.new) (E.faults err.new))
+        → (result ≡ 0) ⊎ (result ≡ 75) }
+    // Where the words are `asm FILE -o OUT` and the status is 0, the image of the module that the text in FILE means
+    // was written.
+    ensures asm { (file out : List ℕ) → command_of words.now ≡ Ok (Command.Asm file out) → result ≡ 0
+        → HasImage file out (F.told files.old) (F.told files.new) }
+    // Where FILE has the text of an assembly and no fault of the store is counted, its image is written, or memory is
+    // wanting.
+    ensures asm_complete { (file out : List ℕ) → command_of words.now ≡ Ok (Command.Asm file out)
+        → HasText file (F.told files.old)
+        → NoneCounted
+        (store_seen (F.told files.old) (F.asked files.old) (F.calls files.old) (F.read_faults files.old)
+        (F.write_faults files.old))
+        (store_seen (F.told files.new) (F.asked files.new) (F.calls files.new) (F.read_faults files.new)
+        (F.write_faults files.new))
         → (result ≡ 0) ⊎ (result ≡ 75) }
 {
     let outcome = perform(alloc, words, files, input, out, err);

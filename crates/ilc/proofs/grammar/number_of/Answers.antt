@@ -1,5 +1,5 @@
 -- A number is spelled exactly where `parse` gives one whose digits are the word.
-use Rattle.std.proofs.Common.{◌∙◌, ◌<◌, ◌^◌, refl, sym, arith, None, Some}
+use Rattle.std.proofs.Common.{refl, sym, arith, None, Some}
 use Rattle.ilc.proofs.NumberOf.{spells, spelled_exactly, not_parsed, parsed_other, same_bytes, other_bytes}
 use Rattle.ilc.proofs.grammar.number_of.Goals as goal
 use Rattle.ilc.proofs.grammar.number_of.Goals.{else-number-most-via-then-number-most+else-eq}

@@ -1,4 +1,4 @@
-use Rattle.std.proofs.Common.{sym, subst}
+use Rattle.std.proofs.Common.{subst}
 use Rattle.ilc.specs.Cause.{Assembles, file_limit}
 use Rattle.ilc.specs.Reading.{IsNoAssembly}
 use Rattle.ilc.specs.Seen.{StoreSeen, store_seen}

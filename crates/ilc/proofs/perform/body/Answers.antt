@@ -1,4 +1,4 @@
-use Rattle.std.proofs.Common.{List, ℕ, inr, subst}
+use Rattle.std.proofs.Common.{inr, subst}
 use Rattle.ilc.specs.Cause.{WriteOutcome}
 use Rattle.ilc.specs.Seen.{StoreSeen, store_seen}
 use Rattle.ilc.proofs.perform.body.Goals as goal
@@ -11,10 +11,10 @@ returns-in-Ok g c =
     let now : StoreSeen = store_seen (files.told c.write.new.files) (files.asked c.write.new.files)
     (files.calls c.write.new.files) (files.read_faults c.write.new.files) (files.write_faults c.write.new.files) in
     inr (record {
-      elf = c.in-Ok.elf;
+      made = c.in-Ok.elf;
       between = between;
-      built = c.in-Ok.ensures.built;
-      writes = subst (λ elf. WriteOutcome c.args.out.now elf between now c.write.result) c.as_slice.ensures
+      is_made = c.in-Ok.ensures.built;
+      writes = subst (λ made. WriteOutcome c.args.out.now made between now c.write.result) c.as_slice.ensures
           c.write.ensures.outcome;
       same_asked = c.write.ensures.same_asked;
     })

@@ -1,4 +1,4 @@
-use Rattle.std.proofs.Common.{sym, subst}
+use Rattle.std.proofs.Common.{subst}
 use Rattle.ilc_build.specs.Refusals.{NotBare}
 use Rattle.ilc.specs.Cause.{file_limit}
 use Rattle.ilc.specs.Seen.{StoreSeen, store_seen}

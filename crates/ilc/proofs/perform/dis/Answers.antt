@@ -12,6 +12,6 @@ returns-in-Ok-list-clause-outcome g c rest error input_faults error_faults =
     inr (
       c.in-Ok.assembly,
       c.in-Ok.ensures.read,
-      subst (λ text. TextOutcome text before now c.print.result) (c.as_slice.ensures ∙ c.in-Ok-list.ensures)
+      subst (λ text. TextOutcome text before now c.print.result) (c.as_slice.ensures ∙ c.in-Ok-list.ensures.listing)
           (c.print.ensures rest error input_faults error_faults),
     )

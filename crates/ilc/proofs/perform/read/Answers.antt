@@ -1,4 +1,4 @@
-use Rattle.std.proofs.Common.{◌≡◌, ap, arith, Err}
+use Rattle.std.proofs.Common.{◌≡◌, ap, Err}
 use Rattle.ilc_io.specs.declared.fault.FileFault.TheVariants.{Missing, TooLong}
 use Rattle.ilc.specs.Seen.{StoreSeen, store_seen}
 use Rattle.ilc.proofs.NotRead.{not_read}

@@ -1,6 +1,6 @@
-use Rattle.std.proofs.Common.{◌≡◌, ◌∙◌, ◌++◌, ℕ, List, Option, codes, map, ap, refl, sym, append_assoc}
+use Rattle.std.proofs.Common.{◌∙◌, ◌++◌, ℕ, List, codes, map, ap, refl, sym, append_assoc}
 use Rattle.std.specs.List.{flat_map}
-use Rattle.ilc.specs.Line.{words, line}
+use Rattle.ilc.specs.Line.{words}
 use Rattle.ilc.proofs.Printing.{breaks_first, breaks_second, breaks_last, prints_last, adds_more, flat_map-map}
 use Rattle.ilc.proofs.report.write_line.Goals as goal
 

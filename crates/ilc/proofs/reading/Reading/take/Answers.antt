@@ -1,6 +1,5 @@
-use Rattle.std.proofs.Common.{◌≡◌, ◌∙◌, ap, sym, subst, OnOk, Option, Some}
+use Rattle.std.proofs.Common.{◌≡◌, ◌∙◌, ap, sym, subst, OnOk, Some}
 use Rattle.ilc.specs.Words.{with_word, with_option}
-use Rattle.ilc.specs.declared.reading.Reading.{Reading}
 use Rattle.ilc.proofs.reading.Reading.take.Goals as goal
 
 pub returns-in-Some-option_named-clause-taken : goal.returns-in-Some-option_named-clause-taken
