@@ -7,3 +7,4 @@ pub mod Spelled
 pub mod Whole
 pub mod Runs
 pub mod Productions
+pub mod Exact

@@ -4,3 +4,4 @@ pub mod Refusal
 pub mod Annotation
 pub mod Reading
 pub mod Productions
+pub mod Signatures

@@ -1,5 +1,5 @@
-ghost use Rattle.std.specs.Prelude.{ℤ, IfSome, IfNone};
-ghost use Rattle.md_sigs.specs.Annotation.{IsAnnotation};
+ghost use Rattle.std.specs.Prelude.{◌≡◌, ℤ, IfSome, IfNone};
+ghost use Rattle.md_sigs.specs.Annotation.{IsAnnotation, annotation_of};
 
 use byteorder::{ByteOrder, LittleEndian};
 
@@ -8,6 +8,7 @@ use byteorder::{ByteOrder, LittleEndian};
 pub fn read_annotation(blob: &[u8]) -> Option<i32>
     ensures found { IfSome result (IsAnnotation blob.now) }
     ensures none { IfNone result ((value : ℤ) → ¬ (IsAnnotation blob.now value)) }
+    ensures exact { result ≡ annotation_of blob.now }
 {
     if blob.len() != 8 {
         return None;

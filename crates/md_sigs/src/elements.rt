@@ -1,8 +1,9 @@
 //! The elements of the types in some bytes. They are read one behind another, with no recursion, so types may be nested
 //! as deep as bytes are long.
-ghost use Rattle.std.specs.Prelude.{IfOk, MatchResult};
+ghost use Rattle.std.specs.Prelude.{IfOk, MatchResult, length};
 ghost use Rattle.md_sigs.specs.Grammar.{AreSpelled, IsSpelled};
-ghost use Rattle.md_sigs.specs.Reading.{IsStopped, places_of};
+ghost use Rattle.md_sigs.specs.Reading.{Gives, IsStopped, places_of};
+ghost use Rattle.md_sigs.specs.Signatures.{elements_in};
 
 use crate::element::{Element, Stop};
 use crate::front::read_element;
@@ -18,9 +19,11 @@ pub(crate) fn read_elements(
     module: u32,
     waiting: &mut VecDeque<Run>,
 ) -> Result<Result<Vec<Element>, Stop>, Memory>
-    ensures { IfOk result (λ read. MatchResult read
+    ensures spelled { IfOk result (λ read. MatchResult read
         (λ elements. IsSpelled «module» (places_of waiting.old.items) bytes.now elements.items)
         (IsStopped (AreSpelled «module» (places_of waiting.old.items)) bytes.now)) }
+    ensures exact { IfOk result (λ read. Gives (λ elements. elements.items) read
+        (elements_in (length bytes.now) «module» (places_of waiting.old.items) bytes.now)) }
 {
     let mut elements = Vec::new(alloc);
     let mut rest = bytes;

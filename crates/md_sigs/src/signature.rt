@@ -1,7 +1,8 @@
-ghost use Rattle.std.specs.Prelude.{◌≡◌, ◌∷◌, [], ◌-◌, ◌^◌, ◌<◌, length, IfOk, IfErr, MatchResult};
+ghost use Rattle.std.specs.Prelude.{◌≡◌, ◌∷◌, [], ◌-◌, ◌^◌, ◌<◌, length, IfOk, IfErr, MatchResult, Some};
 ghost use Rattle.md_sigs.specs.Grammar.{AreSig, AreSpelled, AreType, AreTypes, IsSig, IsType, Says, places_behind};
-ghost use Rattle.md_sigs.specs.Reading.{IsStopped, fault_at};
+ghost use Rattle.md_sigs.specs.Reading.{Gives, IsStopped, fault_at};
 ghost use Rattle.md_sigs.specs.Refusal.{IsRefused};
+ghost use Rattle.md_sigs.specs.Signatures.{IsTold, says, signature, type_blob, types_in};
 
 use crate::element::{Head, Stop};
 use crate::elements::read_elements;
@@ -24,6 +25,7 @@ pub fn read_sig(alloc: Global, blob: &[u8], module: u32) -> Result<Sig, SigFault
     requires { length blob.now < 2 ^ 32 }
     ensures read { IfOk result (IsSig «module» blob.now) }
     ensures refused { IfErr result (IsRefused (AreSig «module») blob.now) }
+    ensures exact { IsTold result (signature «module» blob.now) }
 {
     let (head, rest) = match read_head(blob) {
         Ok(read) => read,
@@ -44,6 +46,7 @@ pub fn read_type(alloc: Global, blob: &[u8], module: u32) -> Result<Ty, SigFault
     requires { length blob.now < 2 ^ 32 }
     ensures read { IfOk result (IsType «module» blob.now) }
     ensures refused { IfErr result (IsRefused (AreType «module») blob.now) }
+    ensures exact { IsTold result (type_blob «module» blob.now) }
 {
     match read_types(alloc, blob, module, Head::Field) {
         Ok(Ok(types)) => Ok(only(types)),
@@ -63,6 +66,8 @@ fn read_types(
         (λ types. AreTypes «module» (places_behind head) bytes.now types.items)
         (IsStopped (AreSpelled «module» (places_behind head)) bytes.now)) }
     ensures counted { IfOk result (λ read. IfOk read (λ types. length types.items ≡ length (places_behind head))) }
+    ensures exact { IfOk result (λ read. Gives (λ types. types.items) read
+        (types_in «module» (places_behind head) bytes.now)) }
 {
     let mut waiting = wait_behind(alloc, head)?;
     match read_elements(alloc, bytes, module, &mut waiting)? {
@@ -74,7 +79,8 @@ fn read_types(
 /// What the beginning of a signature and its types say.
 fn say(alloc: Global, head: Head, types: VecDeque<Ty>) -> Result<Sig, Memory>
     requires { length types.items ≡ length (places_behind head) }
-    ensures { IfOk result (Says head types.items) }
+    ensures said { IfOk result (Says head types.items) }
+    ensures exact { IfOk result (λ sig. says head types.items ≡ Some sig) }
 {
     match head {
         Head::Field => Ok(Sig::Field(only(types))),

@@ -1,1 +1,4 @@
 mod Worked
+pub mod Keys
+pub mod Through
+pub mod Counts

@@ -1,17 +1,20 @@
 -- Custom attributes: II.22.10. One is known by the full name of the type that has its constructor, whichever module
 -- defines it.
 use Rattle.std.specs.Prelude.{ℕ, ◌==◌, ◌&&◌, Bool, false, if◌then◌else◌, List, codes, find, slice_get, Option, Some}
-use Rattle.std.specs.Prelude.{None}
+use Rattle.std.specs.Prelude.{None, ℤ, Result, Ok, Err}
 use Rattle.std.specs.List.{list_any}
 use Rattle.std.specs.Option.{option_map}
 use Rattle.std.specs.Str.{bytes_eq}
 use Rattle.md_tables.specs.declared.module.Table.{Table}
 use Rattle.md_tables.specs.declared.module.TableRow.{TableRow}
 use Rattle.ty_terms.specs.declared.names.MethodId.{MethodId}
+use Rattle.md_sigs.specs.Annotation.{annotation_of}
 use Rattle.ty_names.specs.declared.cells.RowOf.{RowOf}
 use Rattle.ty_names.specs.Modules.{World, tables_at, rows, cell_at, coded_of, blob_of}
 use Rattle.ty_names.specs.Definitions.{owner_of_method, is_row_of}
 use Rattle.ty_names.specs.References.{reference_scope, reference_name, reference_namespace}
+use Rattle.ty_load.specs.declared.fault.ResolveFault.{ResolveFault}
+use Rattle.ty_load.specs.declared.fault.ResolveFault.TheVariants.{BadSig}
 use Rattle.ty_load.specs.Search.{dotted, full_name}
 
 -- the full name of a definition, or of a reference that isn't nested
@@ -61,3 +64,16 @@ abbrev pub is_marked : World → MethodId → Bool
 is_marked world method =
     let tables = tables_at world method.module in
     list_any (gives_attribute tables 0x06 method.row requires_unreferenced) (rows tables 0x0C)
+
+abbrev pub is_annotated : Option ℤ → Result (Option ℤ) ResolveFault
+is_annotated None = Err (BadSig 0)
+is_annotated (Some value) = Ok (Some value)
+
+abbrev pub annotated : Option (List ℕ) → Result (Option ℤ) ResolveFault
+annotated None = Ok None
+annotated (Some blob) = is_annotated (annotation_of blob)
+
+-- The value of the first annotation of a row of Field or Param, if it has one; its blob has no reading from 0 on where
+-- it isn't one of an annotation.
+unfoldable pub annotation : World → ℕ → ℕ → ℕ → Result (Option ℤ) ResolveFault
+annotation world number table row = annotated (annotation_blob world number table row)

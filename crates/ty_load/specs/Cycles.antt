@@ -1,22 +1,19 @@
 -- Types that lead back to themselves: by bases and interfaces, by the types around them, by the values in their fields.
 use Rattle.std.specs.Prelude.{ℕ, zero, suc, ◌==◌, ◌||◌, Bool, false, not, if◌then◌else◌, List, [], ◌∷◌, map}
 use Rattle.std.specs.Prelude.{filter}
-use Rattle.std.specs.Prelude.{find, length, Option, Some, None, Result, Ok}
+use Rattle.std.specs.Prelude.{find, length, Option, Some, None}
 use Rattle.std.specs.List.{list_any, flat_map, range_with_len}
 use Rattle.std.specs.Option.{option_and_then}
 use Rattle.ty_terms.specs.declared.names.TypeId.{TypeId}
 use Rattle.ty_terms.specs.declared.ty.Ty.{Ty}
 use Rattle.ty_terms.specs.declared.ty.Ty.TheOpen.{Ty-F}
 use Rattle.ty_terms.specs.declared.ty.Ty.TheFolds.{fold-Ty}
-use Rattle.md_sigs.specs.declared.fault.SigFault.{SigFault}
-use Rattle.md_sigs.specs.declared.sig.Sig.{Sig}
 use Rattle.ty_names.specs.Modules.{World, tables_at}
-use Rattle.ty_names.specs.Definitions.{type_count, enclosing, fields_of, field_blob, is_static_field}
+use Rattle.ty_names.specs.Definitions.{type_count, enclosing, fields_of, is_static_field}
 use Rattle.ty_names.specs.References.{id_of}
 use Rattle.ty_load.specs.Primitives.{name_of_primitive, system_type, definition_of}
-use Rattle.ty_load.specs.Signatures.{signature}
-use Rattle.ty_load.specs.Types.{resolved_type}
-use Rattle.ty_load.specs.Bases.{same_id, parameters, is_value_type, base_of, interfaces_of}
+use Rattle.ty_load.specs.Bases.{same_id, is_value_type, base_of, interfaces_of}
+use Rattle.ty_load.specs.Members.{field_sig}
 
 -- the type definitions of a world, in order of modules and rows
 abbrev pub ids_of : World → ℕ → List TypeId
@@ -72,14 +69,6 @@ value_step world _ = []
 abbrev pub values_in : World → Ty → List TypeId
 values_in world = fold-Ty (List TypeId) (value_step world)
 
-abbrev pub field_type_if : World → TypeId → Result Sig SigFault → Option Ty
-field_type_if world id (Ok (Sig.Field ty)) = resolved_type world id.module (parameters world id) 0 ty
-field_type_if world id _ = None
-
--- the type of a field, in the variables of its owner
-abbrev pub field_type : World → TypeId → ℕ → Option Ty
-field_type world id row = field_type_if world id (signature id.module (field_blob (tables_at world id.module) row))
-
 abbrev pub instance_fields : World → TypeId → List ℕ
 instance_fields world id =
     let tables = tables_at world id.module in
@@ -89,7 +78,7 @@ instance_fields world id =
 abbrev pub contains : World → TypeId → List TypeId
 contains world id =
     if is_value_type world id
-    then flat_map (λ row. flat_map (values_in world) (listed (field_type world id row))) (instance_fields world id)
+    then flat_map (λ row. flat_map (values_in world) (listed (field_sig world id row))) (instance_fields world id)
     else []
 
 -- ---- what a world has

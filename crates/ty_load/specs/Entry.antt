@@ -15,7 +15,7 @@ use Rattle.ty_names.specs.Modules.{World, tables_at, row_count}
 use Rattle.ty_names.specs.Definitions.{generic_count, owner_of_method, is_static, method_blob}
 use Rattle.ty_names.specs.References.{id_of}
 use Rattle.ty_load.specs.Primitives.{type_of}
-use Rattle.ty_load.specs.Signatures.{signature}
+use Rattle.md_sigs.specs.Signatures.{signature}
 use Rattle.ty_load.specs.Types.{resolved_type, resolved_result}
 
 -- int32 or void

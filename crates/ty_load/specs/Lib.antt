@@ -1,5 +1,7 @@
+pub mod TypeKeys
+pub mod Counting
+pub mod Named
 pub mod Primitives
-pub mod Signatures
 pub mod Types
 pub mod Bases
 pub mod Cycles
@@ -9,6 +11,7 @@ pub mod Members
 pub mod Refusals
 pub mod Tokens
 pub mod Walks
+pub mod Finding
 pub mod Search
 pub mod Attributes
 pub mod Texts

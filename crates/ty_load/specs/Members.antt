@@ -17,7 +17,7 @@ use Rattle.ty_names.specs.Modules.{World, core_of, tables_at}
 use Rattle.ty_names.specs.Definitions.{type_flags, has_flag, is_interface, generic_count, fields_of, methods_of}
 use Rattle.ty_names.specs.Definitions.{field_name, field_blob, is_static_field, is_literal}
 use Rattle.ty_names.specs.Definitions.{method_name, method_blob, is_static}
-use Rattle.ty_load.specs.Signatures.{signature}
+use Rattle.md_sigs.specs.Signatures.{signature}
 use Rattle.ty_load.specs.Types.{resolved_type, resolved_result, and_all}
 use Rattle.ty_load.specs.Bases.{parameters}
 

@@ -17,7 +17,7 @@ use Rattle.ty_names.specs.Escapes.{name_text, type_name_text, qualified_text}
 use Rattle.ty_names.specs.TypeTexts.{in_encloser, text_in_module}
 use Rattle.ty_names.specs.References.{reference_scope, reference_name, reference_namespace}
 use Rattle.ty_load.specs.Primitives.{name_of_primitive}
-use Rattle.ty_load.specs.Signatures.{type_blob}
+use Rattle.md_sigs.specs.Signatures.{type_blob}
 use Rattle.ty_load.specs.Types.{table_of_tag}
 
 -- eight lower-case hexadecimal digits

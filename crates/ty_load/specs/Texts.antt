@@ -18,7 +18,7 @@ use Rattle.ty_names.specs.Definitions.{fields_of, methods_of, field_name, method
 use Rattle.ty_names.specs.Escapes.{name_text, escaped}
 use Rattle.ty_names.specs.TypeTexts.{definition_text}
 use Rattle.ty_load.specs.Primitives.{name_of_primitive, definition_of}
-use Rattle.ty_load.specs.Signatures.{signature}
+use Rattle.md_sigs.specs.Signatures.{signature}
 use Rattle.ty_load.specs.Members.{method_sig_if}
 use Rattle.ty_load.specs.Walks.{arguments}
 

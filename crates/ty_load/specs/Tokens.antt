@@ -19,10 +19,10 @@ use Rattle.ty_load.specs.declared.item.Item.TheVariants.{OfType, OfMethod, OfFie
 use Rattle.ty_names.specs.declared.cells.RowOf.{RowOf}
 use Rattle.ty_names.specs.Modules.{ModuleOf, World, tables_at, row_count, cell_at, name_of, blob_of, coded_of}
 use Rattle.ty_names.specs.Definitions.{owner_of_field, owner_of_method, field_blob, method_blob}
-use Rattle.ty_names.specs.References.{id_of}
+use Rattle.ty_names.specs.References.{id_of, definition}
 use Rattle.ty_load.specs.Primitives.{type_of, definition_of}
-use Rattle.ty_load.specs.Signatures.{signature, type_blob}
-use Rattle.ty_load.specs.Types.{instance, definition, no_void, resolved_type}
+use Rattle.md_sigs.specs.Signatures.{signature, type_blob}
+use Rattle.ty_load.specs.Types.{instance, no_void, resolved_type}
 use Rattle.ty_load.specs.Bases.{parameters, has_definition}
 use Rattle.ty_load.specs.Members.{is_usable_field, field_sig, field_of, method_sig, method_of, may_name, resolved_sig}
 use Rattle.ty_load.specs.Members.{signature_types}

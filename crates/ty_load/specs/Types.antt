@@ -1,5 +1,5 @@
 -- Types as a module writes them, and the types that they are: each name replaced by the definition that it leads to.
-use Rattle.std.specs.Prelude.{ℕ, ◌/◌, ◌%◌, ◌==◌, ◌&&◌, nat_le, Bool, true, false, if◌then◌else◌, List, [], ◌∷◌, length}
+use Rattle.std.specs.Prelude.{ℕ, ◌/◌, ◌%◌, ◌==◌, Bool, true, false, if◌then◌else◌, List, [], ◌∷◌, length}
 use Rattle.std.specs.Prelude.{Option, Some, None, Result, Ok, Err}
 use Rattle.std.specs.Option.{option_map, option_and_then}
 use Rattle.ty_terms.specs.declared.names.TypeId.{TypeId}
@@ -13,22 +13,10 @@ use Rattle.ty_terms.specs.Subst.{has_variables_below}
 use Rattle.md_sigs.specs.declared.fault.SigFault.{SigFault}
 use Rattle.ty_names.specs.declared.cells.RowOf.{RowOf}
 use Rattle.ty_names.specs.Modules.{World, tables_at, cell_at, blob_of}
-use Rattle.ty_names.specs.Definitions.{type_count, generic_count}
-use Rattle.ty_names.specs.References.{id_of, reference}
+use Rattle.ty_names.specs.Definitions.{generic_count}
+use Rattle.ty_names.specs.References.{definition}
 use Rattle.ty_load.specs.Primitives.{type_of}
-use Rattle.ty_load.specs.Signatures.{type_blob}
-
--- a row of TypeDef that is there
-abbrev pub definition_row : World → ℕ → ℕ → Option TypeId
-definition_row world number row =
-    if nat_le 1 row && nat_le row (type_count (tables_at world number)) then Some (id_of number row) else None
-
--- the definition of a row of TypeDef or TypeRef
-abbrev pub definition : World → ℕ → ℕ → ℕ → Option TypeId
-definition world number table row =
-    if table == 0x02 then definition_row world number row
-    else if table == 0x01 then reference world number row
-    else None
+use Rattle.md_sigs.specs.Signatures.{type_blob}
 
 -- The definition that an index in a signature leads to (II.23.2.8): of TypeDef by the tag 0, of TypeRef by 1. A row of
 -- TypeSpec has no place in one.
