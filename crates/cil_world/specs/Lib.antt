@@ -1,0 +1,17 @@
+pub mod Values
+pub mod Contents
+pub mod State
+pub mod Statics
+pub mod Places
+pub mod Arithmetic
+pub mod Comparisons
+pub mod Dispatch
+pub mod Entering
+pub mod Did
+pub mod PlaceSteps
+pub mod ObjectSteps
+pub mod RuntimeSteps
+pub mod Unwinding
+pub mod CallSteps
+pub mod Step
+pub mod Later

@@ -1,0 +1,141 @@
+-- What fails: the rules that an instruction can break, each by its name. ECMA-335 III.1.7, III.1.8, III.2, III.3.
+use Rattle.std.specs.Prelude.{ℕ, ◌==◌, ◌&&◌, ◌||◌, nat_lt, Bool, true, false, not, List, [], ◌∷◌}
+use Rattle.std.specs.Prelude.{length, find, ◌++◌, Option}
+use Rattle.std.specs.List.{list_any, list_all}
+use Rattle.std.specs.Option.{option_map_or}
+use Rattle.il_code.specs.declared.body.Body.{Body}
+use Rattle.il_code.specs.declared.body.Instr.{Instr}
+use Rattle.il_code.specs.Listing.{targets_in}
+use Rattle.il_code.specs.Reach.{next_of}
+use Rattle.il_verify.specs.Actions.{Constrained, Readonly, AddressOfElement}
+use Rattle.il_verify.specs.Actions.{CallVirtual, Return, Rethrow, EndFinally, Leave, Action, AtPlaces}
+use Rattle.il_verify.specs.Actions.{OnVectors, ByCalls, OnExceptions}
+use Rattle.il_verify.specs.Flow.{action_at, row_at, has_operands, operands, is_among}
+use Rattle.il_verify.specs.Ranges.{may_go, may_leave, begins_range, is_in_handler, is_in_catch, is_in_range}
+use Rattle.il_verify.specs.Ranges.{ends_finally}
+use Rattle.il_verify.specs.Row.{Row, is_usable}
+use Rattle.il_verify.specs.Scope.{Scope}
+use Rattle.il_verify.specs.Slots.{Slot, Stack, Slots, Clash}
+
+pub data Rule : Type 0 where
+  -- stacks of different depths meet here, or one was too short before
+  MeetsAtOneDepth : Rule
+  -- all that is on the stack can be used
+  HasNoConflict : Rule
+  -- the stack is no deeper than the body says
+  IsWithinMaxStack : Rule
+  -- the token leads to an item of the operation's kind: of a static field or an instance one, of a method or a `.ctor`
+  NamesItsKind : Rule
+  -- the operands are there, and are what the operation takes
+  HasItsOperands : Rule
+  -- control comes into and out of the ranges of clauses by their ways alone
+  GoesItsWays : Rule
+  -- the code doesn't begin in a handler
+  BeginsOutsideHandlers : Rule
+  LeavesWell : Rule
+  -- `endfinally` ends a finally or a fault handler, in which it stands innermost
+  EndsItsHandler : Rule
+  RethrowsWhatWasCaught : Rule
+  -- `ret` stands in no range of a clause
+  ReturnsOutsideClauses : Rule
+  -- `ret` leaves nothing on the stack
+  ReturnsItsResultAlone : Rule
+  -- behind `constrained.` stands `callvirt`, and behind `readonly.` `ldelema`, and control comes to neither elsewise
+  PrefixesItsInstruction : Rule
+
+abbrev pub rules : List Rule
+rules =
+    MeetsAtOneDepth ∷ HasNoConflict ∷ IsWithinMaxStack ∷ NamesItsKind ∷ HasItsOperands ∷ GoesItsWays
+    ∷ BeginsOutsideHandlers ∷ LeavesWell ∷ EndsItsHandler ∷ RethrowsWhatWasCaught ∷ ReturnsOutsideClauses
+    ∷ ReturnsItsResultAlone ∷ PrefixesItsInstruction ∷ []
+
+-- ---- stacks
+
+abbrev pub on_slots : Bool → (List Slot → Bool) → Stack → Bool
+on_slots clash test (Slots slots) = test slots
+on_slots clash test Clash = clash
+
+abbrev pub has_kind_of_item : Option Row → Bool
+has_kind_of_item row = option_map_or (λ found. found.names) row false
+
+abbrev pub suits_row : List Slot → Row → Bool
+suits_row slots row = has_operands row slots && row.suits (operands row slots)
+
+-- ---- what stands where
+
+abbrev pub is_leave : Action → Bool
+is_leave (OnExceptions (Leave target)) = true
+is_leave _ = false
+
+abbrev pub is_return : Action → Bool
+is_return (ByCalls Return) = true
+is_return _ = false
+
+abbrev pub is_rethrow : Action → Bool
+is_rethrow (OnExceptions Rethrow) = true
+is_rethrow _ = false
+
+abbrev pub is_end : Action → Bool
+is_end (OnExceptions EndFinally) = true
+is_end _ = false
+
+-- the operation that a prefix must stand in front of; what is no prefix asks for none
+abbrev pub is_prefix_for : Action → Action → Bool
+is_prefix_for (AtPlaces (Constrained token)) (ByCalls (CallVirtual method)) = true
+is_prefix_for (AtPlaces (Constrained token)) _ = false
+is_prefix_for (AtPlaces Readonly) (OnVectors (AddressOfElement element)) = true
+is_prefix_for (AtPlaces Readonly) _ = false
+is_prefix_for _ _ = true
+
+abbrev pub is_prefix : Action → Bool
+is_prefix (AtPlaces (Constrained token)) = true
+is_prefix (AtPlaces Readonly) = true
+is_prefix _ = false
+
+-- an instruction, reached or not, leads to the offset
+abbrev pub is_target : Body → ℕ → Bool
+is_target body offset = list_any (λ i. is_among (targets_in i.operand) offset) body.code
+
+abbrev pub is_entered : Body → ℕ → Bool
+is_entered body offset = is_target body offset || begins_range body.clauses offset
+
+abbrev pub prefixes_well : Body → Instr → Bool
+prefixes_well body i =
+    option_map_or (λ next. is_prefix_for (action_at i) (action_at next)) (find (λ next. next.at == i.next) body.code)
+    (not (is_prefix (action_at i)))
+    && (not (is_prefix (action_at i)) || not (is_entered body i.next))
+
+abbrev pub ways_of : Instr → List ℕ
+ways_of i = next_of i ++ targets_in i.operand
+
+-- ---- the rules
+
+-- whether an instruction, before which a stack is known, keeps a rule; the offsets are those that are reached
+abbrev pub keeps : Scope → Body → List ℕ → Instr → Stack → Rule → Bool
+keeps scope body offsets i stack MeetsAtOneDepth = on_slots false (λ slots. true) stack
+keeps scope body offsets i stack HasNoConflict = on_slots true (list_all is_usable) stack
+keeps scope body offsets i stack IsWithinMaxStack =
+    on_slots true (λ slots. not (nat_lt body.max_stack (length slots))) stack
+keeps scope body offsets i stack NamesItsKind = has_kind_of_item (row_at scope body offsets i)
+keeps scope body offsets i stack HasItsOperands =
+    on_slots true (λ slots. option_map_or (suits_row slots) (row_at scope body offsets i) true) stack
+keeps scope body offsets i stack GoesItsWays =
+    is_leave (action_at i) || list_all (may_go body.clauses i.at) (ways_of i)
+keeps scope body offsets i stack BeginsOutsideHandlers =
+    not (i.at == 0) || not (is_in_handler body.clauses 0)
+keeps scope body offsets i stack LeavesWell =
+    not (is_leave (action_at i)) || list_all (may_leave body.clauses i.at) (targets_in i.operand)
+keeps scope body offsets i stack EndsItsHandler = not (is_end (action_at i)) || ends_finally body.clauses i.at
+keeps scope body offsets i stack RethrowsWhatWasCaught =
+    not (is_rethrow (action_at i)) || is_in_catch body.clauses i.at
+keeps scope body offsets i stack ReturnsOutsideClauses =
+    not (is_return (action_at i)) || not (is_in_range body.clauses i.at)
+keeps scope body offsets i stack ReturnsItsResultAlone =
+    not (is_return (action_at i))
+    || on_slots true (λ slots. option_map_or (λ row. not (nat_lt row.takes (length slots)))
+    (row_at scope body offsets i) true) stack
+keeps scope body offsets i stack PrefixesItsInstruction = prefixes_well body i
+
+-- an instruction fails that breaks a rule
+abbrev pub fails : Scope → Body → List ℕ → Instr → Stack → Bool
+fails scope body offsets i stack = not (list_all (keeps scope body offsets i stack) rules)
