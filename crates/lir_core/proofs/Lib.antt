@@ -4,3 +4,5 @@ pub mod Runs
 pub mod Programs
 pub mod Sound
 pub mod Telling
+pub mod Copying
+pub mod Stacked

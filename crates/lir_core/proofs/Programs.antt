@@ -1,14 +1,18 @@
 -- What small programs do, by computing.
-use Rattle.std.proofs.Common.{◌≡◌, ℕ, List, [], refl}
+use Rattle.std.proofs.Common.{◌≡◌, ℕ, zero, suc, List, [], ◌∷◌, true, refl, lit≤, ap, sym, subst, Some, slice_get}
+use Rattle.std.proofs.Common.{◌==◌, if◌then◌else◌}
 use Rattle.std.specs.Int.{int_wrap}
 use Rattle.num_core.specs.Run.{Ended, Stopped}
 use Rattle.lir_core.specs.Calls.{stack_text}
+use Rattle.lir_core.specs.Check.{clauses_are_sound, is_sound}
 use Rattle.lir_core.specs.Handlers.{unhandled_text}
-use Rattle.lir_core.specs.Small.{adds_down, calls_a_double, calls_itself, finally_and_catch, leaves_a_try}
-use Rattle.lir_core.specs.Small.{one_finally, passes_the_greatest, program_with, raises_in_a_callee}
-use Rattle.lir_core.specs.Small.{reads_the_unwritten}
+use Rattle.lir_core.specs.Layout.{IsLaidOut}
+use Rattle.lir_core.specs.Small.{adds_down, calls_a_double, calls_itself, catch_and_catch, clears_what_it_gave}
+use Rattle.lir_core.specs.Small.{finally_and_catch, leaves_a_try, moves_two_words, one_finally, passes_the_greatest}
+use Rattle.lir_core.specs.Small.{program_with, raises_again, raises_in_a_callee, reads_the_unwritten}
 use Rattle.lir_core.specs.State.{NoStep}
 use Rattle.lir_core.specs.Step.{word_run}
+use Rattle.lir_core.specs.declared.body.LirBody.{LirBody}
 
 module _ (input : List ℕ) where
   pub sum : word_run (program_with adds_down []) 0 [] input 15
@@ -47,3 +51,43 @@ module _ (input : List ℕ) where
       ≡ Ended 7 (record { input = input; output = []; error = [] })
   unfolding int_wrap
   left = refl
+
+  pub cleared : word_run (program_with clears_what_it_gave []) 0 [] input 8
+      ≡ Ended 2 (record { input = input; output = []; error = [] })
+  unfolding int_wrap
+  cleared = refl
+
+  pub moved : word_run (program_with (moves_two_words 8 9) []) 0 [] input 5
+      ≡ Ended 2 (record { input = input; output = []; error = [] })
+  unfolding int_wrap
+  moved = refl
+
+  pub not_moved : word_run (program_with (moves_two_words 9 8) []) 0 [] input 3
+      ≡ Stopped NoStep (record { input = input; output = []; error = [] })
+  unfolding int_wrap
+  not_moved = refl
+
+  pub raised_again : word_run (program_with raises_again catch_and_catch) 0 [] input 11
+      ≡ Ended 40 (record { input = input; output = []; error = [] })
+  unfolding int_wrap
+  raised_again = refl
+
+-- what holds of each of two bodies by its item
+by_item : (P : ℕ → LirBody → Type 0) (a b : LirBody) (item : ℕ) (body : LirBody)
+    → slice_get (a ∷ b ∷ []) item ≡ Some body → P 0 a → P 1 b → P item body
+by_item P a b zero body is first second = let same : a ≡ body = cc in subst (P 0) same first
+by_item P a b (suc zero) body is first second = let same : b ≡ body = cc in subst (P 1) same second
+by_item P a b (suc (suc item)) body is first second = cc
+
+pub laid_out : (class : ℕ) → IsLaidOut (program_with raises_in_a_callee (finally_and_catch class))
+laid_out class = record {
+  frames_behind_heap = refl;
+  below = lit≤ tt;
+  image_apart = λ place low high. refl;
+  image_below = λ place high. refl;
+  sound = λ item body is. by_item (λ i b. is_sound b ≡ true) _ _ item body is refl refl;
+  sound_clauses = λ item body is. by_item
+      (λ i b. clauses_are_sound b (if i == 0 then finally_and_catch class else []) ≡ true) _ _ item body is refl refl;
+  found = λ item address is.
+      let same : item ≡ address = cc in (address, refl, ap (slice_get raises_in_a_callee) (sym same));
+}

@@ -11,11 +11,11 @@ use Rattle.lir_core.specs.Slots.{addresses, is_variable, place_in_frame}
 use Rattle.lir_core.specs.declared.body.LirBody.{LirBody}
 use Rattle.lir_core.specs.declared.op.LirOp.{LirOp}
 
-first_of : (a b : Bool) → (a && b) ≡ true → a ≡ true
+pub first_of : (a b : Bool) → (a && b) ≡ true → a ≡ true
 first_of true b both = refl
 first_of false b both = both
 
-second_of : (a b : Bool) → (a && b) ≡ true → b ≡ true
+pub second_of : (a b : Bool) → (a && b) ≡ true → b ≡ true
 second_of true b both = both
 second_of false b both = cc
 

@@ -1,9 +1,10 @@
 -- Calls and returns.
-use Rattle.std.specs.Prelude.{ℕ, ◌+◌, ◌-◌, ◌%◌, ◌==◌, nat_lt, if◌then◌else◌, List, [], ◌∷◌, ◌++◌, codes}
+use Rattle.std.specs.Prelude.{ℕ, ◌+◌, ◌-◌, ◌*◌, ◌%◌, ◌==◌, nat_lt, if◌then◌else◌, List, [], ◌∷◌, ◌++◌, codes}
 use Rattle.std.specs.Prelude.{slice_get, Option, Some, None}
 use Rattle.std.specs.Option.{option_and_then, option_map}
 use Rattle.num_core.specs.Run.{Run, Running, Ended, Streams}
-use Rattle.lir_core.specs.Memory.{Cell, FlatMemory, copied, with_cells}
+use Rattle.num_core.specs.declared.fix.FixKind.TheVariants.{Code}
+use Rattle.lir_core.specs.Memory.{Cell, FlatMemory, copied, with_cells, zeros}
 use Rattle.lir_core.specs.Pieces.{of_argument, of_block, words_from}
 use Rattle.lir_core.specs.Program.{WordProgram, ends_with, no_step, with}
 use Rattle.lir_core.specs.Slots.{Here, place_here, place_in_frame, with_frame, without_frame, word_in}
@@ -46,7 +47,7 @@ stack_with program frames body = (program.stack_end - lowest program frames) + b
 abbrev pub with_new_frame : WordState → ℕ → ℕ → Option ℕ → List Frame → FlatMemory → WordState
 with_new_frame state item address dictionary frames memory =
     record state {
-      frames = record { item = item; place = 0; address = address; dictionary = dictionary; unfinished = [] } ∷ frames;
+      frames = record { item = item; place = 0; address = address; dictionary = dictionary; entered = [] } ∷ frames;
       memory = memory;
     }
 
@@ -65,9 +66,9 @@ abbrev pub enters : WordProgram → WordState → ℕ → Option ℕ → List Gi
 enters program state item dictionary given frames streams =
     with (program.body_of item) streams (λ body. enters_body program state item body dictionary given frames streams)
 
--- the item whose body a call enters
+-- the item whose body a call enters: the one that the program finds at the address of its code
 abbrev pub item_of : Here → Callee → Option ℕ
-item_of here (Body item) = Some item
+item_of here (Body item) = option_and_then here.program.item_at (here.program.address_of Code item)
 item_of here (Through slot) = option_and_then here.program.item_at (word_in here slot)
 
 -- the dictionary that a call gives
@@ -89,17 +90,24 @@ given_by here (argument ∷ arguments) =
     (given_by here arguments))
     (cells_here here (of_argument argument))
 
+-- the memory with 0 in each of these slots
+abbrev pub cleared_here : Here → Block → Option FlatMemory
+cleared_here here block =
+    option_and_then (λ place. with_cells here.state.memory place (zeros (8 * block.words)))
+    (place_here here (of_block block))
+
 -- a call: the frame that calls waits at it
-abbrev pub calls : Here → Callee → Option ℕ → List Argument → Streams → Run WordState WordCause
-calls here callee dictionary arguments streams =
+abbrev pub calls : Here → Callee → Option ℕ → List Argument → Block → Streams → Run WordState WordCause
+calls here callee dictionary arguments cleared streams =
     with (item_of here callee) streams (λ item.
     with (dictionary_of here dictionary) streams (λ word.
     with (given_by here arguments) streams (λ given.
-    enters here.program here.state item word given (here.frame ∷ here.below) streams)))
+    with (cleared_here here cleared) streams (λ memory.
+    enters here.program (record here.state { memory = memory }) item word given (here.frame ∷ here.below) streams))))
 
 -- the slots in which a frame waits for the result of its call
 abbrev pub result_of : Option LirOp → Option Block
-result_of (Some (Call callee dictionary arguments result)) = Some result
+result_of (Some (Call callee dictionary arguments cleared result)) = Some result
 result_of _ = None
 
 -- the frame goes on behind its call, with these cells as the result in its slots

@@ -1,8 +1,9 @@
 -- What a body at the word level has to keep so that it can be run.
 use Rattle.std.specs.Prelude.{ℕ, ◌+◌, ◌*◌, Bool, true, not, ◌&&◌, ◌||◌, ◌==◌, nat_le, nat_lt, List, [], ◌∷◌, length}
 use Rattle.std.specs.List.{list_all, list_any}
-use Rattle.lir_core.specs.Frame.{fixed_bytes}
-use Rattle.lir_core.specs.Pieces.{addressed, labels, touched, word}
+use Rattle.lir_core.specs.Frame.{fixed_bytes, most_passed}
+use Rattle.lir_core.specs.Pieces.{addressed, labels, passed, touched, word}
+use Rattle.lir_core.specs.State.{Clause}
 use Rattle.lir_core.specs.declared.body.LirBody.{LirBody}
 use Rattle.lir_core.specs.declared.soundness.Piece.{Piece}
 use Rattle.lir_core.specs.declared.op.LirOp.{LirOp}
@@ -30,12 +31,14 @@ are_distinct (n ∷ ns) = not (list_any (λ m. m == n) ns) && are_distinct ns
 abbrev pub can_be_addressed : LirBody → ℕ → Bool
 can_be_addressed body slot = lies_in_frame body.frame (word slot) && not (list_any (λ var. var == slot) body.vars)
 
--- what an operation of the body keeps: all that it touches fits, no variable has an address, and control stays within
+-- what an operation of the body keeps: all that it touches fits, no variable has an address, control stays within, and
+-- a routine gets no more words than it may take
 abbrev pub is_sound_op : LirBody → LirOp → Bool
 is_sound_op body op =
     list_all (fits body) (touched op)
     && list_all (can_be_addressed body) (addressed op)
     && list_all (λ label. nat_lt label (length body.ops)) (labels op)
+    && nat_le (length (passed op)) most_passed
 
 abbrev pub ops_are_sound : LirBody → Bool
 ops_are_sound body = list_all (is_sound_op body) body.ops
@@ -52,3 +55,21 @@ vars_are_slots body = list_all (λ slot. lies_in_frame body.frame (word slot)) b
 -- as one whole word.
 abbrev pub is_sound : LirBody → Bool
 is_sound body = ops_are_sound body && marks_are_places body && vars_are_slots body
+
+-- ---- clauses
+
+-- one or more operations of the body, from a place up to another
+abbrev pub is_range : LirBody → ℕ → ℕ → Bool
+is_range body begin end = nat_lt begin end && nat_le end (length body.ops)
+
+-- what a clause of the body keeps: both ranges are of its operations, and the slot for the object lies in its frame
+abbrev pub is_sound_clause : LirBody → Clause → Bool
+is_sound_clause body clause =
+    is_range body clause.try_begin clause.try_end
+    && is_range body clause.handler_begin clause.handler_end
+    && lies_in_frame body.frame (word clause.object_slot)
+
+-- all clauses keep it, and where there are any no variable may stand in a register
+abbrev pub clauses_are_sound : LirBody → List Clause → Bool
+clauses_are_sound body clauses =
+    list_all (is_sound_clause body) clauses && (length clauses == 0 || length body.vars == 0)

@@ -1,4 +1,4 @@
--- How many bytes the frame of a call takes, and what lies where in it.
+-- How many bytes the frame of a call takes, what lies where in it, and how much a routine takes.
 use Rattle.std.specs.Prelude.{◌≡◌, ℕ, ◌+◌, ◌*◌, ◌%◌, ◌≤◌}
 
 -- the bytes at the begin of a frame that belong to the machine alone
@@ -14,3 +14,7 @@ pub record IsFrameSize (bytes : ℕ) : Type 0 where
   pub least : fixed_bytes + 8 * scratch_slots ≤ bytes
   pub greatest : bytes ≤ 65536
   pub aligned : bytes % 16 ≡ 0
+
+-- how many words a routine of the runtime takes at most
+abbrev pub most_passed : ℕ
+most_passed = 8

@@ -1,14 +1,15 @@
--- Raising, and what runs on the way to a handler: ECMA-335 I.12.4.2.5 and III.3.46, III.3.35.
+-- Raising, and what runs on the way to a handler: ECMA-335 I.12.4.2.5 and III.3.46, III.3.35, III.4.24.
 use Rattle.std.specs.Prelude.{ℕ, suc, ◌-◌, Bool, true, false, not, ◌&&◌, ◌==◌, nat_le, nat_lt, if◌then◌else◌, List}
-use Rattle.std.specs.Prelude.{[], ◌∷◌, ◌++◌, filter, codes, slice_get}
-use Rattle.std.specs.Option.{option_and_then}
+use Rattle.std.specs.Prelude.{[], ◌∷◌, ◌++◌, filter, codes, slice_get, Option, Some, None}
+use Rattle.std.specs.Option.{option_and_then, option_or}
 use Rattle.num_core.specs.Run.{Run, Running, Streams}
 use Rattle.lir_core.specs.Memory.{cells_of, with_cells}
 use Rattle.lir_core.specs.Pieces.{word}
 use Rattle.lir_core.specs.Program.{WordProgram, ends_with, no_step, with}
 use Rattle.lir_core.specs.Slots.{Here, place_in_frame, without_frame}
-use Rattle.lir_core.specs.State.{ASearch, AnOperation, AnUnwind, Candidate, Catch, Caught, Clause, Fault, Finally}
-use Rattle.lir_core.specs.State.{Frame, Goal, HandlerKind, ToCatch, ToPlace, Unfinished, WordCause, WordState}
+use Rattle.lir_core.specs.State.{ASearch, AnOperation, AnUnwind, Candidate, Catch, Caught, Clause, Entered, Fault}
+use Rattle.lir_core.specs.State.{Finally, ForObject, Frame, Goal, HandlerKind, OnTheWay, Purpose, ToCatch, ToPlace}
+use Rattle.lir_core.specs.State.{WordCause, WordState}
 
 abbrev pub unhandled_text : List ℕ
 unhandled_text = codes "Unhandled exception" ++ 10 ∷ []
@@ -89,15 +90,24 @@ abbrev pub in_handler : Clause → List Clause → Goal → Frame → Frame
 in_handler clause rest goal frame =
     record frame {
       place = clause.handler_begin;
-      unfinished = record { clause = clause; rest = rest; goal = goal } ∷ frame.unfinished;
+      entered = record { clause = clause; purpose = OnTheWay rest goal } ∷ frame.entered;
     }
+
+-- the handlers that were entered, from the last one on of whose clause a test holds; those entered since are left
+abbrev pub entered_from : (Clause → Bool) → List Entered → List Entered
+entered_from holds [] = []
+entered_from holds (e ∷ entered) = if holds e.clause then e ∷ entered else entered_from holds entered
+
+-- the frame at a place to which a `leave` leads
+abbrev pub at_target : ℕ → Frame → Frame
+at_target place frame = record frame { place = place; entered = entered_from (is_handled place) frame.entered }
 
 -- runs the handlers of these clauses, the first first, and then goes on at a place
 abbrev pub goes_through : WordState → List Clause → ℕ → Frame → List Frame → Streams → Run WordState WordCause
 goes_through state (clause ∷ rest) place frame below streams =
     Running (record state { frames = in_handler clause rest (ToPlace place) frame ∷ below }) streams
 goes_through state [] place frame below streams =
-    Running (record state { frames = record frame { place = place } ∷ below }) streams
+    Running (record state { frames = at_target place frame ∷ below }) streams
 
 -- `leave`: by way of the finally handlers of the clauses whose try ranges it leaves
 abbrev pub leaves : Here → ℕ → Streams → Run WordState WordCause
@@ -106,21 +116,39 @@ leaves here place streams =
     (filter (λ clause. is_finally clause.kind && not (is_tried place clause)) (tried_in here.program here.frame))
     place here.frame here.below streams
 
--- the end of a handler, whose frame goes on with the others that run
-abbrev pub finishes_for : Goal → Unfinished → WordState → Frame → List Frame → Streams → Run WordState WordCause
-finishes_for (ToPlace place) done state frame below streams = goes_through state done.rest place frame below streams
-finishes_for (ToCatch caught) done state frame below streams =
-    Running (record state { frames = frame ∷ below; under_way = AnUnwind caught done.rest }) streams
+-- goes on to a goal with the handlers of these clauses
+abbrev pub goes_on_to : Goal → List Clause → WordState → Frame → List Frame → Streams → Run WordState WordCause
+goes_on_to (ToPlace place) rest state frame below streams = goes_through state rest place frame below streams
+goes_on_to (ToCatch caught) rest state frame below streams =
+    Running (record state { frames = frame ∷ below; under_way = AnUnwind caught rest }) streams
 
-abbrev pub finishes_first : List Unfinished → Here → Streams → Run WordState WordCause
+abbrev pub goes_on_for : Purpose → WordState → Frame → List Frame → Streams → Run WordState WordCause
+goes_on_for (ForObject object) state frame below streams = no_step streams
+goes_on_for (OnTheWay rest goal) state frame below streams = goes_on_to goal rest state frame below streams
+
+-- the end of the finally or fault handler that was entered last
+abbrev pub finishes_first : List Entered → Here → Streams → Run WordState WordCause
 finishes_first [] here streams = no_step streams
 finishes_first (done ∷ others) here streams =
-    finishes_for done.goal done here.state (record here.frame { unfinished = others }) here.below streams
+    goes_on_for done.purpose here.state (record here.frame { entered = others }) here.below streams
 
 abbrev pub finishes : Here → Streams → Run WordState WordCause
-finishes here streams = finishes_first here.frame.unfinished here streams
+finishes here streams = finishes_first here.frame.entered here streams
 
--- the catch handler is entered; what a handler that this leaves was entered for is dropped
+-- whether a place lies in a handler, behind its begin
+abbrev pub is_within : ℕ → Clause → Bool
+is_within place clause = nat_lt clause.handler_begin place && nat_lt place clause.handler_end
+
+-- The frame at the begin of a catch handler, with its object. The handlers that this leaves are done, with what they
+-- were entered for.
+abbrev pub in_catch : Clause → ℕ → Frame → Frame
+in_catch clause object frame =
+    record frame {
+      place = clause.handler_begin;
+      entered = record { clause = clause; purpose = ForObject object }
+          ∷ entered_from (is_within clause.handler_begin) frame.entered;
+    }
+
 abbrev pub enters_catch : WordProgram → WordState → Caught → Frame → List Frame → Streams
     → Run WordState WordCause
 enters_catch program state caught frame below streams =
@@ -129,13 +157,25 @@ enters_catch program state caught frame below streams =
     with (option_and_then (λ place. with_cells state.memory place (cells_of 8 caught.object))
     (place_in_frame body frame.address (word clause.object_slot))) streams (λ memory.
     Running (record state {
-      frames = record frame {
-        place = clause.handler_begin;
-        unfinished = filter (λ u. is_handled clause.handler_begin u.clause) frame.unfinished;
-      } ∷ below;
+      frames = in_catch clause caught.object frame ∷ below;
       memory = memory;
       under_way = AnOperation;
     }) streams))
+
+abbrev pub object_of : Purpose → Option ℕ
+object_of (ForObject object) = Some object
+object_of (OnTheWay rest goal) = None
+
+-- the object of the catch handler that was entered last of those that hold a place
+abbrev pub caught_at : ℕ → List Entered → Option ℕ
+caught_at place [] = None
+caught_at place (e ∷ entered) =
+    option_or (if is_handled place e.clause then object_of e.purpose else None) (caught_at place entered)
+
+-- `rethrow`: ECMA-335 III.4.24
+abbrev pub rethrows : Here → Streams → Run WordState WordCause
+rethrows here streams =
+    with (caught_at here.frame.place here.frame.entered) streams (λ object. raises here object streams)
 
 abbrev pub one_less_above : Caught → Caught
 one_less_above caught =

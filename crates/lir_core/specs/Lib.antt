@@ -10,5 +10,6 @@ pub mod Calls
 pub mod Handlers
 pub mod Routines
 pub mod Step
+pub mod Layout
 pub mod Tells
 pub mod Small

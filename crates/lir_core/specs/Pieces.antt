@@ -1,4 +1,4 @@
--- Which parts of its frame an operation reads and writes, and where control can go from it.
+-- Which parts of its frame an operation reads and writes, where control can go from it, and what it passes.
 use Rattle.std.specs.Prelude.{ℕ, ◌+◌, ◌*◌, List, [], ◌∷◌, ◌++◌, map, Option, Some, None}
 use Rattle.num_core.specs.declared.kind.Narrow.{Narrow}
 use Rattle.num_core.specs.declared.kind.Narrow.TheVariants.{I1, U1, I2, U2, I4, U4, I8, U8}
@@ -11,8 +11,8 @@ use Rattle.lir_core.specs.declared.op.LirOp.{LirOp}
 use Rattle.lir_core.specs.declared.op.LirOp.TheVariants.{Constant, Address, SlotAddress, Dictionary, Move, Load}
 use Rattle.lir_core.specs.declared.op.LirOp.TheVariants.{Store, Copy, Clear, Binary, Unary, Checked, Divide, Shift}
 use Rattle.lir_core.specs.declared.op.LirOp.TheVariants.{Convert, ConvertChecked, Compare, Branch, BranchIfZero}
-use Rattle.lir_core.specs.declared.op.LirOp.TheVariants.{BranchUnlessZero, Jump, Call, Routine, Raise, Leave}
-use Rattle.lir_core.specs.declared.op.LirOp.TheVariants.{EndHandler, Return}
+use Rattle.lir_core.specs.declared.op.LirOp.TheVariants.{BranchUnlessZero, Jump, Call, Routine, Raise, Rethrow}
+use Rattle.lir_core.specs.declared.op.LirOp.TheVariants.{Leave, EndHandler, Return}
 use Rattle.lir_core.specs.declared.op.Place.{Place}
 use Rattle.lir_core.specs.declared.op.Place.TheVariants.{Slot, Flat}
 
@@ -78,10 +78,11 @@ touched (Branch test kind left right label) = word left ∷ word right ∷ []
 touched (BranchIfZero value label) = word value ∷ []
 touched (BranchUnlessZero value label) = word value ∷ []
 touched (Jump label) = []
-touched (Call callee dictionary arguments result) =
-    of_block result ∷ (of_callee callee ++ (word_if dictionary ++ map of_argument arguments))
+touched (Call callee dictionary arguments cleared result) =
+    of_block result ∷ of_block cleared ∷ (of_callee callee ++ (word_if dictionary ++ map of_argument arguments))
 touched (Routine number arguments result) = word_if result ++ map word arguments
 touched (Raise object) = word object ∷ []
+touched Rethrow = []
 touched (Leave label) = []
 touched EndHandler = []
 touched (Return result) = of_block result ∷ []
@@ -109,9 +110,10 @@ addressed (Branch test kind left right label) = []
 addressed (BranchIfZero value label) = []
 addressed (BranchUnlessZero value label) = []
 addressed (Jump label) = []
-addressed (Call callee dictionary arguments result) = []
+addressed (Call callee dictionary arguments cleared result) = []
 addressed (Routine number arguments result) = []
 addressed (Raise object) = []
+addressed Rethrow = []
 addressed (Leave label) = []
 addressed EndHandler = []
 addressed (Return result) = []
@@ -139,9 +141,15 @@ labels (Branch test kind left right label) = label ∷ []
 labels (BranchIfZero value label) = label ∷ []
 labels (BranchUnlessZero value label) = label ∷ []
 labels (Jump label) = label ∷ []
-labels (Call callee dictionary arguments result) = []
+labels (Call callee dictionary arguments cleared result) = []
 labels (Routine number arguments result) = []
 labels (Raise object) = []
+labels Rethrow = []
 labels (Leave label) = label ∷ []
 labels EndHandler = []
 labels (Return result) = []
+
+-- the slots whose words an operation passes to a routine
+abbrev pub passed : LirOp → List ℕ
+passed (Routine number arguments result) = arguments
+passed _ = []

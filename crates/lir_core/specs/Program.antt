@@ -24,7 +24,8 @@ RoutineEffect = List ℕ → FlatMemory → ℕ → Streams → Option Outcome
 
 -- The bodies of items, with their clauses, inner ones first; the addresses of what has a name, and the item whose body
 -- begins at an address; whether a clause of a class catches an object, by the dictionary of its frame; the routines by
--- their numbers; where the stack ends, and how many bytes all frames may take; the memory of the image.
+-- their numbers; where the heap begins, and how many bytes of it may be used; where the stack ends, and how many bytes
+-- all frames may take; the memory of the image.
 pub record WordProgram : Type 0 where
   pub body_of : ℕ → Option LirBody
   pub clauses_of : ℕ → List Clause
@@ -32,6 +33,8 @@ pub record WordProgram : Type 0 where
   pub item_at : ℕ → Option ℕ
   pub catches : ℕ → Option ℕ → FlatMemory → ℕ → Option Bool
   pub routine : ℕ → Option RoutineEffect
+  pub heap_begin : ℕ
+  pub heap_bound : ℕ
   pub stack_end : ℕ
   pub stack_bound : ℕ
   pub image : FlatMemory

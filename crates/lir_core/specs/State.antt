@@ -9,7 +9,7 @@ pub data HandlerKind : Type 0 where
   Fault : HandlerKind
 
 -- A clause of a body. Both ranges are those of places from the first up to the second. A catch handler begins with the
--- address of the object in a slot.
+-- address of the object in a slot, which is the first of the evaluation stack.
 pub record Clause : Type 0 where
   pub kind : HandlerKind
   pub try_begin : ℕ
@@ -35,20 +35,25 @@ pub data Goal : Type 0 where
   ToPlace : ℕ → Goal
   ToCatch : Caught → Goal
 
--- a finally or fault handler that runs: its clause, the clauses whose handlers run behind it, and what they all run for
-pub record Unfinished : Type 0 where
+-- What a handler was entered for: a catch handler for an object, and a finally or fault handler on the way to a goal,
+-- with the clauses whose handlers run behind it.
+pub data Purpose : Type 0 where
+  ForObject : ℕ → Purpose
+  OnTheWay : List Clause → Goal → Purpose
+
+-- a handler that was entered and isn't done
+pub record Entered : Type 0 where
   pub clause : Clause
-  pub rest : List Clause
-  pub goal : Goal
+  pub purpose : Purpose
 
 -- A call that hasn't returned: the item whose body it runs, the place of its next operation, which is that of the call
--- where it waits for one, the address of its frame, its dictionary, and the handlers that run, the innermost first.
+-- where it waits for one, the address of its frame, its dictionary, and the handlers that were entered, the last first.
 pub record Frame : Type 0 where
   pub item : ℕ
   pub place : ℕ
   pub address : ℕ
   pub dictionary : Option ℕ
-  pub unfinished : List Unfinished
+  pub entered : List Entered
 
 -- What the next step is: an operation of the innermost frame, a test of the next clause that might catch an object, or
 -- the next thing to do on the way to the clause that does, with the clauses whose handlers are still to run in the

@@ -9,7 +9,7 @@ use Rattle.num_core.specs.declared.kind.Narrow.{Narrow}
 use Rattle.lir_core.specs.Frame.{fixed_bytes}
 use Rattle.lir_core.specs.Check.{can_be_addressed}
 use Rattle.lir_core.specs.Calls.{Given, calls, enters, returns}
-use Rattle.lir_core.specs.Handlers.{finishes, leaves, raises, searches, unwinds}
+use Rattle.lir_core.specs.Handlers.{finishes, leaves, raises, rethrows, searches, unwinds}
 use Rattle.lir_core.specs.Memory.{cells_of, copied, number_in, with_cells, zeros}
 use Rattle.lir_core.specs.Pieces.{bytes_of_type, word}
 use Rattle.lir_core.specs.Program.{EndsProgram, GoesOn, Outcome, WordProgram, no_step, with}
@@ -22,8 +22,8 @@ use Rattle.lir_core.specs.declared.op.LirOp.{LirOp}
 use Rattle.lir_core.specs.declared.op.LirOp.TheVariants.{Constant, Address, SlotAddress, Dictionary, Move, Load}
 use Rattle.lir_core.specs.declared.op.LirOp.TheVariants.{Store, Copy, Clear, Binary, Unary, Checked, Divide, Shift}
 use Rattle.lir_core.specs.declared.op.LirOp.TheVariants.{Convert, ConvertChecked, Compare, Branch, BranchIfZero}
-use Rattle.lir_core.specs.declared.op.LirOp.TheVariants.{BranchUnlessZero, Jump, Call, Routine, Raise, Leave}
-use Rattle.lir_core.specs.declared.op.LirOp.TheVariants.{EndHandler, Return}
+use Rattle.lir_core.specs.declared.op.LirOp.TheVariants.{BranchUnlessZero, Jump, Call, Routine, Raise, Rethrow}
+use Rattle.lir_core.specs.declared.op.LirOp.TheVariants.{Leave, EndHandler, Return}
 use Rattle.lir_core.specs.declared.op.Place.{Place}
 
 -- a slot gets the word of a value
@@ -59,15 +59,15 @@ stores here to from narrow streams =
     (place_of here to (bytes_of_type narrow))) streams
     (goes_on_with here streams))
 
--- two ranges of so many bytes are equal or don't meet
-abbrev pub are_equal_or_apart : ℕ → ℕ → ℕ → Bool
-are_equal_or_apart a b bytes = a == b || (nat_le (a + bytes) b || nat_le (b + bytes) a)
+-- two ranges of so many bytes don't meet, or the first isn't behind the other
+abbrev pub may_be_copied_to : ℕ → ℕ → ℕ → Bool
+may_be_copied_to target source bytes = nat_le target source || nat_le (source + bytes) target
 
 abbrev pub copies : Here → Place → Place → ℕ → Streams → Run WordState WordCause
 copies here to from bytes streams =
     with (place_of here from bytes) streams (λ source.
     with (place_of here to bytes) streams (λ target.
-    if are_equal_or_apart source target bytes
+    if may_be_copied_to target source bytes
     then with (option_and_then (with_cells here.state.memory target) (copied here.state.memory source bytes)) streams
     (goes_on_with here streams)
     else no_step streams))
@@ -147,9 +147,11 @@ performs (BranchIfZero value label) here streams =
 performs (BranchUnlessZero value label) here streams =
     with (word_in here value) streams (λ n. branches here label streams (not (n == 0)))
 performs (Jump label) here streams = goes_to here label streams
-performs (Call callee dictionary arguments result) here streams = calls here callee dictionary arguments streams
+performs (Call callee dictionary arguments cleared result) here streams =
+    calls here callee dictionary arguments cleared streams
 performs (Routine number arguments result) here streams = does_routine here number arguments result streams
 performs (Raise object) here streams = with (word_in here object) streams (λ address. raises here address streams)
+performs Rethrow here streams = rethrows here streams
 performs (Leave label) here streams = leaves here label streams
 performs EndHandler here streams = finishes here streams
 performs (Return result) here streams = returns here result streams

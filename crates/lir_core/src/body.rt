@@ -10,6 +10,9 @@ pub const FIXED_BYTES: u32 = 128;
 /// How many slots, from slot 0 on, hold values within an instruction. Arguments begin behind them.
 pub const SCRATCH_SLOTS: u32 = 8;
 
+/// How many words a routine of the runtime takes at most.
+pub const MOST_PASSED: usize = 8;
+
 /// A body at the word level.
 #[derive(Debug, Drop)]
 pub struct LirBody {
@@ -18,7 +21,8 @@ pub struct LirBody {
     pub frame: u32,
     /// Places in `ops`, each with the offset of the CIL instruction whose operations begin there.
     pub marks: List<(u32, u32)>,
-    /// The slots that hold a variable each, and are read and written as whole words alone.
+    /// The slots that hold a variable each, arguments first and then locals, and are read and written as whole words
+    /// alone. A body with clauses has none.
     pub vars: List<u32>,
     ghost frame_size: { IsFrameSize frame },
 }

@@ -1,11 +1,15 @@
 //! Laws of memory and of runs at the word level. Each function does nothing, and ensures its laws of all values.
 ghost use Rattle.std.specs.Prelude.{◌≡◌, ◌≢◌, ◌+◌, ◌^◌, ◌<◌, ◌≤◌, ◌⊎◌, ℕ, true, List, [], length, slice_get, Some};
-ghost use Rattle.num_core.specs.Run.{Ended, Stopped, Streams};
+ghost use Rattle.std.specs.List.{AllZip};
+ghost use Rattle.num_core.specs.Run.{Ended, Running, Stopped, Streams};
 ghost use Rattle.lir_core.specs.Calls.{Given, stack_text};
-ghost use Rattle.lir_core.specs.Frame.{fixed_bytes as fixed_bytes_of, scratch_slots as scratch_slots_of};
+ghost use Rattle.lir_core.specs.Frame.{fixed_bytes as fixed_bytes_of, most_passed as most_passed_of};
+ghost use Rattle.lir_core.specs.Frame.{scratch_slots as scratch_slots_of};
 ghost use Rattle.lir_core.specs.Handlers.{unhandled_text};
-ghost use Rattle.lir_core.specs.Memory.{Cell, FlatMemory, cells_from, cells_of, number_in, overwritten};
+ghost use Rattle.lir_core.specs.Memory.{Cell, FlatMemory, cells_from, cells_of, copied, number_in, overwritten};
+ghost use Rattle.lir_core.specs.Memory.{with_cells};
 ghost use Rattle.lir_core.specs.Check.{is_sound, is_sound_op};
+ghost use Rattle.lir_core.specs.Layout.{FramesFit, IsLaidOut};
 ghost use Rattle.lir_core.specs.Pieces.{word};
 ghost use Rattle.lir_core.specs.Program.{WordProgram};
 ghost use Rattle.lir_core.specs.Slots.{addresses, place_in_frame};
@@ -13,17 +17,19 @@ ghost use Rattle.lir_core.specs.declared.body.LirBody.{LirBody};
 ghost use Rattle.lir_core.specs.declared.op.LirOp.{LirOp};
 ghost use Rattle.lir_core.specs.Small.{program_with, adds_down, calls_a_double, calls_itself, passes_the_greatest};
 ghost use Rattle.lir_core.specs.Small.{reads_the_unwritten, raises_in_a_callee, finally_and_catch, leaves_a_try};
-ghost use Rattle.lir_core.specs.Small.{one_finally};
+ghost use Rattle.lir_core.specs.Small.{catch_and_catch, clears_what_it_gave, moves_two_words, one_finally};
+ghost use Rattle.lir_core.specs.Small.{raises_again};
 ghost use Rattle.lir_core.specs.State.{WordCause, WordState};
 ghost use Rattle.lir_core.specs.Step.{word_run};
-ghost use Rattle.lir_core.specs.Tells.{MemoryTellsNoMore, TellsNoMore};
+ghost use Rattle.lir_core.specs.Tells.{CellTellsNoMore, MemoryTellsNoMore, TellsNoMore};
 
-use crate::body::{FIXED_BYTES, SCRATCH_SLOTS};
+use crate::body::{FIXED_BYTES, MOST_PASSED, SCRATCH_SLOTS};
 
-/// The parts of a frame are those of the definitions.
+/// The parts of a frame, and what routines take, are those of the definitions.
 pub fn parts_of_frames()
     ensures fixed { FIXED_BYTES ≡ fixed_bytes_of }
     ensures scratch { SCRATCH_SLOTS ≡ scratch_slots_of }
+    ensures passed { MOST_PASSED ≡ most_passed_of }
 {}
 
 /// Memory that was written.
@@ -60,6 +66,17 @@ pub fn telling()
     // a number that is read in the one is read in the other
     ensures number { (memory other : FlatMemory) (place count n : ℕ) → MemoryTellsNoMore memory other →
         number_in memory place count ≡ Some n → number_in other place count ≡ Some n }
+    // bytes that are copied in the one are copied in the other
+    ensures copied { (memory other : FlatMemory) (place count : ℕ) (cells : List Cell) →
+        MemoryTellsNoMore memory other → copied memory place count ≡ Some cells →
+        (cells_of_other : List Cell) × (copied other place count ≡ Some cells_of_other)
+        × AllZip CellTellsNoMore cells cells_of_other }
+    // and what can be written in the one can be in the other, which still tells no less then
+    ensures written { (memory other new : FlatMemory) (place : ℕ) (cells cells_of_other : List Cell) →
+        MemoryTellsNoMore memory other → AllZip CellTellsNoMore cells cells_of_other →
+        with_cells memory place cells ≡ Some new →
+        (new_other : FlatMemory) × (with_cells other place cells_of_other ≡ Some new_other)
+        × MemoryTellsNoMore new new_other }
 {}
 
 /// A run that is over stays as it is.
@@ -109,4 +126,29 @@ pub fn small_programs()
     ensures left { (input : List ℕ) →
         word_run (program_with leaves_a_try one_finally) 0 [] input 4
         ≡ Ended 7 (record { input = input; output = []; error = [] }) }
+    // slots whose words a callee has taken are 0 behind the call
+    ensures cleared { (input : List ℕ) →
+        word_run (program_with clears_what_it_gave []) 0 [] input 8
+        ≡ Ended 2 (record { input = input; output = []; error = [] }) }
+    // two words move down to where they overlap, and not up
+    ensures moved { (input : List ℕ) →
+        word_run (program_with (moves_two_words 8 9) []) 0 [] input 5
+        ≡ Ended 2 (record { input = input; output = []; error = [] }) }
+    ensures not_moved { (input : List ℕ) →
+        word_run (program_with (moves_two_words 9 8) []) 0 [] input 3
+        ≡ Stopped WordCause.NoStep (record { input = input; output = []; error = [] }) }
+    // an object is raised again, though its slot has another word by then
+    ensures raised_again { (input : List ℕ) →
+        word_run (program_with raises_again catch_and_catch) 0 [] input 11
+        ≡ Ended 40 (record { input = input; output = []; error = [] }) }
+    // such programs are laid out
+    ensures laid_out { (class : ℕ) → IsLaidOut (program_with raises_in_a_callee (finally_and_catch class)) }
+{}
+
+/// What holds of runs of programs that are laid out.
+pub fn laid_out_programs()
+    // the frames lie one behind the other up to the end of all, and take no more than they may
+    ensures frames { (program : WordProgram) (item : ℕ) (given : List Given) (input : List ℕ) (n : ℕ)
+        (state : WordState) (streams : Streams) → IsLaidOut program →
+        word_run program item given input n ≡ Running state streams → FramesFit program state.frames }
 {}

@@ -7,7 +7,7 @@ pub mod laws;
 mod op;
 mod soundness;
 
-pub use body::{FIXED_BYTES, LirBody, SCRATCH_SLOTS};
+pub use body::{FIXED_BYTES, LirBody, MOST_PASSED, SCRATCH_SLOTS};
 pub use op::{
     Argument, BinaryOperation, Block, Callee, CheckedOperation, DivisionPart, LirOp, Place, Test,
     UnaryOperation,

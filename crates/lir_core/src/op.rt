@@ -42,7 +42,7 @@ pub enum LirOp {
         from: u32,
         narrow: Narrow,
     },
-    /// So many bytes, whether they were written or not. The two places are equal or don't meet.
+    /// So many bytes, whether they were written or not. The two places may meet unless `to` lies behind `from`.
     Copy {
         to: Place,
         from: Place,
@@ -141,15 +141,18 @@ pub enum LirOp {
     Jump {
         label: u32,
     },
-    /// Enters a body, with a word of this frame as its dictionary, if it takes one. Where it returns, its result stands
-    /// in these slots, and control goes on behind the call.
+    /// Enters a body, with a word of this frame as its dictionary, if it takes one. Once the arguments are taken, the
+    /// slots of `cleared` are 0. Where the body returns, its result stands in those of `result`, and control goes on
+    /// behind the call.
     Call {
         callee: Callee,
         dictionary: Option<u32>,
         arguments: List<Argument>,
+        cleared: Block,
         result: Block,
     },
-    /// What a routine of the runtime does with the words of these slots. Its result, if it has one, is a word.
+    /// What a routine of the runtime does with the words of these slots, of which there are at most eight. Its result,
+    /// if it has one, is a word.
     Routine {
         number: u32,
         arguments: List<u32>,
@@ -159,6 +162,8 @@ pub enum LirOp {
     Raise {
         object: u32,
     },
+    /// Raises again what the innermost catch handler around it has caught (ECMA-335 III.4.24).
+    Rethrow,
     /// On to the label, by way of the finally handlers of the clauses that this leaves.
     Leave {
         label: u32,
@@ -181,7 +186,7 @@ pub enum Place {
     Flat { base: u32, offset: u32 },
 }
 
-/// So many slots from one on.
+/// So many slots from one on. It may be none.
 #[derive(Clone, Copy, Debug, PartialEq, Eq)]
 pub struct Block {
     pub slot: u32,

@@ -1,12 +1,13 @@
-ghost use Rattle.std.specs.Prelude.{◌≡◌, ◌++◌, ◌==◌, map, nat_lt, length};
+ghost use Rattle.std.specs.Prelude.{◌≡◌, ◌++◌, ◌==◌, map, nat_le, nat_lt, length};
 ghost use Rattle.std.specs.List.{list_all, list_any};
 ghost use Rattle.lir_core.specs.Pieces.{bytes_of_type, words_from as words_of, word as word_of, at_place as piece_at};
-ghost use Rattle.lir_core.specs.Pieces.{touched, addressed, labels, of_argument, word_if, of_callee};
+ghost use Rattle.lir_core.specs.Frame.{most_passed};
+ghost use Rattle.lir_core.specs.Pieces.{touched, addressed, labels, of_argument, passed, word_if, of_callee};
 ghost use Rattle.lir_core.specs.Check.{lies_in_frame, is_whole_or_apart, fits, are_distinct, can_be_addressed};
 ghost use Rattle.lir_core.specs.Check.{is_sound, is_sound_op, ops_are_sound, marks_are_places, vars_are_slots};
 ghost use Rattle.lir_core.specs.declared.op.LirOp.TheVariants as LirOp;
 
-use crate::body::{FIXED_BYTES, LirBody};
+use crate::body::{FIXED_BYTES, LirBody, MOST_PASSED};
 use crate::op::{Argument, Block, Callee, LirOp, Place};
 use num_core::Narrow;
 
@@ -17,10 +18,10 @@ pub(crate) struct Piece {
     bytes: u64,
 }
 
-/// Whether labels, slots and the places of `marks` are in range, and each slot of `vars` stands there once and is read
-/// and written as one whole word only.
+/// Whether labels, slots and the places of `marks` are in range, routines get no more words than they may take, and
+/// each slot of `vars` stands there once and is read and written as one whole word only.
 pub fn check(body: &LirBody) -> bool
-    ensures { result ≡ is_sound body.now }
+    ensures sound { result ≡ is_sound body.now }
 {
     body.ops_are_sound() && body.marks_are_places() && body.vars_are_slots()
 }
@@ -138,7 +139,10 @@ impl LirBody {
     fn allows(&self, op: &LirOp) -> bool
         ensures { result ≡ is_sound_op self.now op.now }
     {
-        self.touched_fit(op) && self.addressed_can_be(op) && self.labels_are_places(op)
+        self.touched_fit(op)
+            && self.addressed_can_be(op)
+            && self.labels_are_places(op)
+            && passes_few(op)
     }
 
     /// Whether the parts of the frame that the operation reads and writes fit.
@@ -203,8 +207,9 @@ impl LirBody {
                 callee,
                 dictionary,
                 arguments,
+                cleared,
                 result,
-            } => { self.call_fits(callee, dictionary, arguments.as_slice(), *result) }
+            } => { self.call_fits(callee, dictionary, arguments.as_slice(), *cleared, *result) }
             LirOp::Routine {
                 arguments,
                 result,
@@ -212,7 +217,7 @@ impl LirBody {
             } => { self.routine_fits(arguments.as_slice(), result) }
             LirOp::Raise { object } => self.all_fit(&[word(*object)]),
             LirOp::Return { result } => self.all_fit(&[words_from(result.slot, result.words)]),
-            LirOp::Jump { .. } | LirOp::Leave { .. } | LirOp::EndHandler => true,
+            LirOp::Jump { .. } | LirOp::Rethrow | LirOp::Leave { .. } | LirOp::EndHandler => true,
         }
     }
 
@@ -222,13 +227,15 @@ impl LirBody {
         callee: &Callee,
         dictionary: &Option<u32>,
         arguments: &[Argument],
+        cleared: Block,
         gives: Block,
     ) -> bool
         ensures { result ≡ list_all (fits self.now)
-            (touched (LirOp.Call callee.now dictionary.now arguments.now gives)) }
+            (touched (LirOp.Call callee.now dictionary.now arguments.now cleared gives)) }
     {
         self.fits(words_from(gives.slot, gives.words))
-            && self.read_by_call_fits(callee, dictionary, arguments)
+            && (self.fits(words_from(cleared.slot, cleared.words))
+                && self.read_by_call_fits(callee, dictionary, arguments))
     }
 
     /// Whether what it reads does.
@@ -291,6 +298,7 @@ impl LirBody {
             | LirOp::Call { .. }
             | LirOp::Routine { .. }
             | LirOp::Raise { .. }
+            | LirOp::Rethrow
             | LirOp::Leave { .. }
             | LirOp::EndHandler
             | LirOp::Return { .. } => true,
@@ -328,6 +336,7 @@ impl LirBody {
             | LirOp::Call { .. }
             | LirOp::Routine { .. }
             | LirOp::Raise { .. }
+            | LirOp::Rethrow
             | LirOp::EndHandler
             | LirOp::Return { .. } => true,
         }
@@ -371,6 +380,42 @@ fn word(slot: u32) -> Piece
     ensures { result ≡ word_of slot }
 {
     words_from(slot, 1)
+}
+
+/// Whether the operation passes no more words to a routine than it may take.
+fn passes_few(op: &LirOp) -> bool
+    ensures { result ≡ nat_le (length (passed op.now)) most_passed }
+{
+    match op {
+        LirOp::Routine { arguments, .. } => arguments.len() <= MOST_PASSED,
+        LirOp::Constant { .. }
+        | LirOp::Address { .. }
+        | LirOp::SlotAddress { .. }
+        | LirOp::Dictionary { .. }
+        | LirOp::Move { .. }
+        | LirOp::Load { .. }
+        | LirOp::Store { .. }
+        | LirOp::Copy { .. }
+        | LirOp::Clear { .. }
+        | LirOp::Binary { .. }
+        | LirOp::Unary { .. }
+        | LirOp::Checked { .. }
+        | LirOp::Divide { .. }
+        | LirOp::Shift { .. }
+        | LirOp::Convert { .. }
+        | LirOp::ConvertChecked { .. }
+        | LirOp::Compare { .. }
+        | LirOp::Branch { .. }
+        | LirOp::BranchIfZero { .. }
+        | LirOp::BranchUnlessZero { .. }
+        | LirOp::Jump { .. }
+        | LirOp::Call { .. }
+        | LirOp::Raise { .. }
+        | LirOp::Rethrow
+        | LirOp::Leave { .. }
+        | LirOp::EndHandler
+        | LirOp::Return { .. } => true,
+    }
 }
 
 /// How many bytes a number of the type has in memory.

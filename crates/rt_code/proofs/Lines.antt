@@ -1,5 +1,5 @@
 -- A line of error text, and the end.
-use Rattle.std.proofs.Common.{◌≡◌, ◌∙◌, ◌⊎◌, inl, inr, ℕ, suc, ◌+◌, ◌*◌, ◌%◌, ◌^◌, ◌<◌, ◌≤◌, ℤ, pos, negsuc, ◌+ℤ◌, ◌-◌}
+use Rattle.std.proofs.Common.{◌≡◌, ◌∙◌, ◌⊎◌, inl, inr, ℕ, ◌+◌, ◌*◌, ◌%◌, ◌^◌, ◌<◌, ◌≤◌, ℤ, pos, negsuc, ◌+ℤ◌, ◌-◌}
 use Rattle.std.proofs.Common.{List, [], ◌∷◌, ◌++◌, length, arith, refl, ap, sym, subst, length-append, append_assoc}
 use Rattle.std.proofs.Common.{append-nil, Some, slice_get}
 use Rattle.byteorder.specs.Endian.{little_bytes}
@@ -10,12 +10,12 @@ use Rattle.rv_isa.specs.Operands.{IsImmediate}
 use Rattle.num_core.specs.Run.{Running, Ended, Streams, after}
 use Rattle.rv_isa.specs.declared.ins.Ins.{Ins}
 use Rattle.rv_isa.specs.declared.ins.Ins.TheVariants.{Addi, Addiw, Ecall, Lui, Sw}
-use Rattle.rv_step.specs.Machine.{MachineState, effect, low_word, machine_step, register, stores, to_error}
+use Rattle.rv_step.specs.Machine.{MachineState, low_word, machine_step, stores, to_error}
 use Rattle.rv_step.specs.Memory.{AllowsTheSame, AreApart, Bytes, MayRead, MayWrite, Writes}
 use Rattle.rv_step.specs.declared.segment.Segment.{Segment}
 use Rattle.rv_step.proofs.AddressLaws.{stored, written_by}
 use Rattle.rv_step.proofs.Addresses.{allowed_within, joined, split}
-use Rattle.rv_code.specs.Code.{AllLegal, BlockAt, Calculated, Calculates, CodeAt, Done, Gives, given}
+use Rattle.rv_code.specs.Code.{AllLegal, BlockAt, Calculated, CodeAt, Done, Gives, given}
 use Rattle.rv_code.specs.Registers.{listed}
 use Rattle.rv_code.proofs.Going.{calculated, code_in_same_memory, code_kept, next_place, same_bytes, steps_at}
 use Rattle.rv_code.proofs.Going.{block_parts, legal_both, legal_parts}
@@ -23,7 +23,7 @@ use Rattle.rv_code.proofs.Spelled.{by_parts}
 use Rattle.rt_code.specs.Code.{line, lower, puts_all, tells, upper, words_of}
 use Rattle.rt_code.specs.Conventions.{HasScratch, scratch_at, scratch_bytes}
 use Rattle.rt_code.specs.Effects.{EndsWithin, with_error}
-use Rattle.rt_code.proofs.Machines.{holding, machine, sum_of, then_step, then_steps, writes_between}
+use Rattle.rt_code.proofs.Machines.{holding, sum_of, then_step, then_steps, writes_between}
 
 -- the machine behind three instructions that put four bytes into memory
 pub record Put (address : ℕ) (code : List Ins) (k at value : ℕ) (word : ℕ → ℕ) (x5 : ℕ) (segments : List Segment)

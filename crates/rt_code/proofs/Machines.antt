@@ -1,11 +1,11 @@
 -- Machines whose registers are spelled out, and steps one after the other.
-use Rattle.std.proofs.Common.{◌≡◌, ◌∙◌, ◌⊎◌, ℕ, suc, ◌+◌, ◌*◌, ◌%◌, ◌^◌, ◌<◌, ◌≤◌, ℤ, pos, ◌+ℤ◌, List, [], ◌∷◌, ◌++◌}
-use Rattle.std.proofs.Common.{length, All, arith, refl, ap, sym, subst}
+use Rattle.std.proofs.Common.{◌≡◌, ◌∙◌, ℕ, suc, ◌+◌, ◌^◌, ◌<◌, pos, ◌+ℤ◌, List, ◌∷◌}
+use Rattle.std.proofs.Common.{arith, ap, sym, subst}
 use Rattle.num_core.specs.Bits.{low_bits}
 use Rattle.num_core.specs.Run.{Run, Running, Streams, after, one_more}
 use Rattle.num_core.proofs.Runs.{after-add}
 use Rattle.rv_step.specs.Machine.{MachineState, machine_step, register}
-use Rattle.rv_step.specs.Memory.{AllowsTheSame, AreApart, Bytes, Writes, is_allowed}
+use Rattle.rv_step.specs.Memory.{Writes, is_allowed}
 use Rattle.rv_step.specs.Segments.{AreSegments}
 use Rattle.rv_step.specs.declared.segment.Segment.{Segment}
 use Rattle.rv_step.specs.declared.trap.Trap.{Trap}

@@ -1,29 +1,27 @@
 -- The routines that pass a word: the end of the program, a byte written and a byte read.
-use Rattle.std.proofs.Common.{◌≡◌, ◌∙◌, ◌⊎◌, inl, inr, ℕ, zero, suc, ◌+◌, ◌-◌, ◌*◌, ◌%◌, ◌^◌, ◌<◌, ◌≤◌, ℤ, pos, negsuc}
-use Rattle.std.proofs.Common.{◌+ℤ◌, List, [], ◌∷◌, ◌++◌, length, take, drop, min, map, All, arith, refl, ap, sym, subst}
+use Rattle.std.proofs.Common.{◌≡◌, ◌∙◌, inl, inr, ℕ, zero, suc, ◌+◌, ◌-◌, ◌*◌, ◌%◌, ◌^◌, ◌<◌, ◌≤◌, pos, negsuc}
+use Rattle.std.proofs.Common.{◌+ℤ◌, List, [], ◌∷◌, ◌++◌, length, take, drop, min, All, arith, refl, ap, sym, subst}
 use Rattle.std.proofs.Common.{Some, slice_get, slice_set}
 use Rattle.byteorder.specs.Endian.{little_bytes, little_number}
 use Rattle.num_core.specs.Bits.{low_bits}
 use Rattle.num_core.specs.Run.{Running, Ended, Streams, after}
 use Rattle.rv_isa.specs.declared.ins.Ins.{Ins}
 use Rattle.rv_isa.specs.declared.ins.Ins.TheVariants.{Addi, Beq, Ecall, Jalr, Lbu, Sb}
-use Rattle.rv_step.specs.Machine.{MachineState, effect, loads, machine_step, register, stores, to_output, without_bit_0}
-use Rattle.rv_step.specs.Memory.{AllowsTheSame, AreApart, Bytes, MayRead, MayWrite, Writes}
+use Rattle.rv_step.specs.Machine.{MachineState, machine_step, register, stores, to_output, without_bit_0}
+use Rattle.rv_step.specs.Memory.{AreApart, Bytes, MayRead, MayWrite, Writes}
 use Rattle.rv_step.specs.declared.segment.Segment.{Segment}
 use Rattle.rv_step.proofs.AddressLaws.{loads_by, reads_by, stored, written_by}
 use Rattle.rv_step.proofs.Addresses.{allowed_within}
-use Rattle.rv_code.specs.Code.{AllLegal, BlockAt, Calculated, Calculates, CodeAt, Done, Gives, given}
+use Rattle.rv_code.specs.Code.{AllLegal, BlockAt, Calculated, CodeAt, Done, Gives, given}
 use Rattle.rv_code.specs.Registers.{HasRegisters, registers_of}
 use Rattle.rv_code.proofs.Going.{calculated, code_in_same_memory, code_kept, next_place, same_bytes, steps_at}
 use Rattle.rv_code.proofs.Spelled.{by_parts}
-use Rattle.lir_core.specs.Routines.{behind_first, first_of}
 use Rattle.rv_isa.specs.Operands.{IsImmediate}
 use Rattle.std.proofs.lemmas.Int.{ints}
 use Rattle.rt_code.specs.Code.{code_of}
 use Rattle.rt_code.specs.declared.routines.Routine.TheVariants.{ReadByte, WriteByte}
 use Rattle.rt_code.specs.Conventions.{HasScratch, KeepsMemory, scratch_at, scratch_bytes}
-use Rattle.rt_code.specs.Effects.{EndsWithin, LeadsWithin, Returns}
-use Rattle.rt_code.proofs.Lines.{part_apart, scratch_stays}
+use Rattle.rt_code.specs.Effects.{EndsWithin, Returns}
 use Rattle.rt_code.proofs.Machines.{machine, sum_of, then_step, then_steps, writes_between}
 
 -- the end with the low byte of x10

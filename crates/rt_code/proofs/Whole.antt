@@ -1,6 +1,6 @@
 -- Each routine has its effect.
-use Rattle.std.proofs.Common.{◌≡◌, ◌∙◌, ℕ, ◌+◌, ◌*◌, ◌%◌, ◌^◌, ◌<◌, ◌≤◌, List, [], ◌∷◌, ◌++◌, length, All, arith, refl}
-use Rattle.std.proofs.Common.{ap, sym, subst, append-nil, pos, ◌-◌}
+use Rattle.std.proofs.Common.{◌≡◌, ◌∙◌, ℕ, ◌+◌, ◌*◌, ◌%◌, ◌^◌, ◌<◌, List, [], ◌∷◌, ◌++◌, length, All, arith, refl}
+use Rattle.std.proofs.Common.{sym, subst, append-nil, pos, ◌-◌}
 use Rattle.num_core.specs.Run.{Streams}
 use Rattle.rv_isa.specs.declared.ins.Ins.{Ins}
 use Rattle.rv_isa.specs.declared.ins.Ins.TheVariants.{Addi, Ecall}
@@ -12,14 +12,14 @@ use Rattle.lir_core.specs.Calls.{stack_text}
 use Rattle.lir_core.specs.Handlers.{unhandled_text}
 use Rattle.lir_core.specs.Routines.{behind_first, first_of, heap_text}
 use Rattle.rt_code.specs.Code.{code_of, line}
-use Rattle.rt_code.specs.Conventions.{HasScratch, frame_address}
-use Rattle.rt_code.specs.Effects.{Begins, ComesTo, EndsWithLine, EndsWithin, Enters, HasEffect, LeadsWithin, Returns}
-use Rattle.rt_code.specs.Effects.{Root, Starts, with_error}
+use Rattle.rt_code.specs.Conventions.{HasScratch}
+use Rattle.rt_code.specs.Effects.{Begins, ComesTo, EndsWithLine, EndsWithin, Enters, HasEffect, HasRoom}
+use Rattle.rt_code.specs.Effects.{LeadsWithin, Returns, Starts, frames_end, with_error}
 use Rattle.rt_code.specs.declared.routines.Routine.{Routine}
 use Rattle.rt_code.specs.declared.routines.Routine.TheVariants.{Start, End, WriteByte, ReadByte, StackBound, HeapBound}
 use Rattle.rt_code.specs.declared.routines.Routine.TheVariants.{Unhandled}
 use Rattle.rt_code.proofs.Lines.{IsLine, ends_line}
-use Rattle.rt_code.proofs.Machines.{as_machine, holding, machine}
+use Rattle.rt_code.proofs.Machines.{as_machine, machine}
 use Rattle.rt_code.proofs.Passing.{ends_with_word, reads_a_byte, reads_no_byte, set_legal, writes_a_byte}
 use Rattle.rt_code.proofs.Starting.{enters_the_body, refuses_the_body, stack_is_line}
 
@@ -70,20 +70,22 @@ unhandled_is_line = record {
 
 starts : Starts (code_of Start)
 starts = record {
-  enters = λ address m streams place root frame b h.
+  enters = λ address m streams front root frame b r.
       let e = as_machine m address b.comes.registers b.comes.pc in
-      subst (λ n. (new : MachineState) × LeadsWithin 11 n streams new streams × Enters address place root n new) (sym e)
-      (enters_the_body address address (register m) m.segments streams place root frame
-      (subst (Begins address (code_of Start) place root frame) e b) h);
-  refuses = λ address m streams place root frame b h scratch.
+      subst (λ n. (new : MachineState) × LeadsWithin 16 n streams new streams × Enters address front root frame n new)
+      (sym e)
+      (enters_the_body address address (register m) m.segments streams front root frame
+      (subst (Begins address (code_of Start) front root frame) e b)
+      (subst (HasRoom address 41 front root frame) e r));
+  refuses = λ address m streams front root frame b h scratch.
       let e = as_machine m address b.comes.registers b.comes.pc in
-      subst (λ n. EndsWithin 33 n streams 134 (with_error stack_text streams)) (sym e)
-      (refuses_the_body address address (register m) m.segments streams place root frame
-      (subst (Begins address (code_of Start) place root frame) e b) h
-      (subst (HasScratch root.stack_end address 36) e scratch));
+      subst (λ n. EndsWithin 35 n streams 134 (with_error stack_text streams)) (sym e)
+      (refuses_the_body address address (register m) m.segments streams front root frame
+      (subst (Begins address (code_of Start) front root frame) e b) h
+      (subst (HasScratch (frames_end front root) address 41) e scratch));
   ends = λ address m streams there has pc.
-      let e : address + 44 ≡ address + 4 * 11 = omega arith in
-      ends address (code_of Start) 11 m streams there has (pc ∙ e) (refl, (refl, tt));
+      let e : address + 64 ≡ address + 4 * 16 = omega arith in
+      ends address (code_of Start) 16 m streams there has (pc ∙ e) (refl, (refl, tt));
 }
 
 writes : HasEffect WriteByte (code_of WriteByte)

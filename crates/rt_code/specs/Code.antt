@@ -3,12 +3,12 @@ use Rattle.std.specs.Prelude.{ℕ, ◌+◌, ◌/◌, ◌%◌, ◌^◌, ℤ, pos,
 use Rattle.byteorder.specs.Endian.{little_number}
 use Rattle.num_core.specs.Bits.{signed}
 use Rattle.rv_isa.specs.declared.ins.Ins.{Ins}
-use Rattle.rv_isa.specs.declared.ins.Ins.TheVariants.{Addi, Addiw, Auipc, Beq, Bltu, Ecall, Jalr, Lbu, Ld, Lui, Lwu}
-use Rattle.rv_isa.specs.declared.ins.Ins.TheVariants.{Sb, Srli, Sub, Sw}
+use Rattle.rv_isa.specs.declared.ins.Ins.TheVariants.{Add, Addi, Addiw, Auipc, Beq, Bltu, Ecall, Jalr, Lbu, Ld, Lui}
+use Rattle.rv_isa.specs.declared.ins.Ins.TheVariants.{Lwu, Sb, Sd, Srli, Sub, Sw}
 use Rattle.lir_core.specs.Calls.{stack_text}
 use Rattle.lir_core.specs.Handlers.{unhandled_text}
 use Rattle.lir_core.specs.Routines.{heap_text}
-use Rattle.rt_code.specs.Conventions.{scratch_at}
+use Rattle.rt_code.specs.Conventions.{first_argument, scratch_at}
 use Rattle.rt_code.specs.declared.routines.Routine.{Routine}
 use Rattle.rt_code.specs.declared.routines.Routine.TheVariants.{Start, End, WriteByte, ReadByte, StackBound, HeapBound}
 use Rattle.rt_code.specs.declared.routines.Routine.TheVariants.{Unhandled}
@@ -55,8 +55,9 @@ abbrev pub unhandled_line : List Ins
 unhandled_line = line unhandled_text 20
 
 abbrev pub code_of : Routine → List Ins
-code_of Start = Auipc 5 0 ∷ Ld 3 5 (negsuc 7) ∷ Ld 2 3 (pos 8) ∷ Ld 26 3 (pos 16) ∷ Ld 27 3 (pos 24) ∷ Ld 6 3 (pos 0)
-    ∷ Lwu 7 6 (pos 0) ∷ Srli 7 7 12 ∷ Sub 5 2 26 ∷ Bltu 5 7 (pos 16) ∷ Jalr 1 6 (pos 0) ∷ Addi 17 0 (pos 93) ∷ Ecall
+code_of Start = Auipc 5 0 ∷ Ld 3 5 (negsuc 23) ∷ Ld 6 3 (pos 16) ∷ Add 27 3 6 ∷ Ld 6 5 (negsuc 15) ∷ Add 26 27 6
+    ∷ Ld 6 5 (negsuc 7) ∷ Add 2 26 6 ∷ Ld 28 3 (pos 0) ∷ Lwu 7 28 (pos 0) ∷ Srli 7 7 12 ∷ Bltu 6 7 (pos 28)
+    ∷ Sub 5 2 7 ∷ Ld 29 3 (pos 8) ∷ Sd 5 29 (pos first_argument) ∷ Jalr 1 28 (pos 0) ∷ Addi 17 0 (pos 93) ∷ Ecall
     ∷ stack_line
 code_of End = Addi 17 0 (pos 93) ∷ Ecall ∷ []
 code_of WriteByte = Sb 2 10 (pos scratch_at) ∷ Addi 11 2 (pos scratch_at) ∷ Addi 10 0 (pos 1) ∷ Addi 12 0 (pos 1)

@@ -1,9 +1,9 @@
 -- What programs and the routines of the runtime keep in registers, and where a routine may write.
-use Rattle.std.specs.Prelude.{◌≡◌, ℕ, ◌+◌, ◌*◌, ◌≤◌, ◌^◌, List, [], ◌∷◌, length, map}
-use Rattle.rv_isa.specs.declared.ins.Ins.{Ins}
+use Rattle.std.specs.Prelude.{◌≡◌, ℕ, ◌+◌, ◌-◌, ◌*◌, ◌≤◌, ◌^◌, List, [], ◌∷◌, length, map, replicate}
 use Rattle.rv_step.specs.Machine.{MachineState, register}
 use Rattle.rv_step.specs.Memory.{AllowsTheSame, AreApart, Bytes, MayRead, MayWrite}
 use Rattle.rv_step.specs.Segments.{AreSegments}
+use Rattle.lir_core.specs.Frame.{fixed_bytes, scratch_slots}
 
 -- x1 has the address at which a call goes on behind it
 abbrev pub return_address : ℕ
@@ -17,7 +17,8 @@ frame_address = 2
 abbrev pub root_address : ℕ
 root_address = 3
 
--- x10 has the one word that a routine takes, and the one that it gives
+-- x10 to x17 have the words that a routine takes, in order, and x10 the one that a routine or a body gives. A body that
+-- gives no word gives 0.
 abbrev pub passed_word : ℕ
 passed_word = 10
 
@@ -28,6 +29,15 @@ lowest_address = 26
 -- x27 has the address behind what is used of the heap
 abbrev pub heap_end : ℕ
 heap_end = 27
+
+-- What isn't used of the heap is 0: all bytes from its end on up to the frames.
+pub record HasClearHeap (m : MachineState) : Type 0 where
+  pub order : register m heap_end ≤ register m lowest_address
+  pub zeros : Bytes m (register m heap_end) (replicate (register m lowest_address - register m heap_end) 0)
+
+-- how far behind the begin of a frame the first argument lies: behind the fixed bytes and the scratch slots
+abbrev pub first_argument : ℕ
+first_argument = fixed_bytes + 8 * scratch_slots
 
 -- what routines keep: these, and x4, x8, x9 and x18 to x25
 abbrev pub kept_registers : List ℕ

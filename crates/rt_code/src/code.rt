@@ -15,6 +15,9 @@ use std::alloc::Global;
 /// Where a routine may write in the innermost frame.
 const SCRATCH: i16 = 96;
 
+/// Where a frame has its first argument.
+const FIRST_ARGUMENT: i16 = 192;
+
 /// The numbers of the environment's calls.
 const READ: i16 = 63;
 
@@ -26,7 +29,8 @@ const EXIT: i16 = 93;
 const FAILED: i16 = 134;
 
 /// The instructions of a routine. It refers to nothing outside of it, so its code can stand at any address that is a
-/// multiple of 4; in front of `Start` stands the address of the root.
+/// multiple of 4. In front of `Start` stand three words of 8 bytes: the address of the root, and the bounds of heap and
+/// stack.
 #[tactic(auto, using(crate::proofs::Whole::has_effect))]
 pub fn routine(alloc: Global, which: Routine) -> Result<List<Ins>, Memory>
     ensures effect { IfOk result (HasEffect which) }
@@ -48,8 +52,9 @@ fn instructions(alloc: Global, which: Routine) -> Result<List<Ins>, Memory>
     }
 }
 
-/// Finds the root by the address in front of the code, then the end of the stack, its lowest address, the begin of the
-/// heap and the first body there, and how large a frame that body takes in its first instruction.
+/// Finds the root and the bounds in front of the code, and by them the heap, the frames behind it and their end. At the
+/// root it finds the first body, which says in its first instruction how large its frame is, and its argument, which
+/// goes to where that body has its first one.
 fn start(alloc: Global) -> Result<List<Ins>, Memory>
     ensures { IfOk result (λ code. code ≡ code_of RoutineOf.Start) }
 {
@@ -60,36 +65,47 @@ fn start(alloc: Global) -> Result<List<Ins>, Memory>
                 rd: x(5),
                 imm: UpperImmediate::of(0),
             },
-            load(3, 5, -8),
-            load(2, 3, 8),
-            load(26, 3, 16),
-            load(27, 3, 24),
-            load(6, 3, 0),
-            Ins::Lwu {
-                rd: x(7),
-                rs1: x(6),
-                imm: Immediate::of(0),
-            },
-            Ins::Srli {
-                rd: x(7),
-                rs1: x(7),
-                shamt: ShiftAmount::of(12),
-            },
-            Ins::Sub {
-                rd: x(5),
-                rs1: x(2),
-                rs2: x(26),
-            },
-            Ins::Bltu {
-                rs1: x(5),
-                rs2: x(7),
-                imm: BranchOffset::of(16),
-            },
-            jalr(1, 6),
-            addi(17, 0, EXIT),
-            Ins::Ecall,
+            load(3, 5, -24),
+            load(6, 3, 16),
+            add(27, 3, 6),
+            load(6, 5, -16),
+            add(26, 27, 6),
+            load(6, 5, -8),
+            add(2, 26, 6),
+            load(28, 3, 0),
         ],
     )?;
+    code.extend_from_slice(&[
+        Ins::Lwu {
+            rd: x(7),
+            rs1: x(28),
+            imm: Immediate::of(0),
+        },
+        Ins::Srli {
+            rd: x(7),
+            rs1: x(7),
+            shamt: ShiftAmount::of(12),
+        },
+        Ins::Bltu {
+            rs1: x(6),
+            rs2: x(7),
+            imm: BranchOffset::of(28),
+        },
+        Ins::Sub {
+            rd: x(5),
+            rs1: x(2),
+            rs2: x(7),
+        },
+        load(29, 3, 8),
+        Ins::Sd {
+            rs1: x(5),
+            rs2: x(29),
+            imm: Immediate::of(FIRST_ARGUMENT),
+        },
+        jalr(1, 28),
+        addi(17, 0, EXIT),
+        Ins::Ecall,
+    ])?;
     let line = stack_line(alloc)?;
     code.extend_from_slice(line.as_slice())?;
     Ok(code)
@@ -247,6 +263,20 @@ fn load(rd: u8, rs1: u8, imm: i16) -> Ins
         rd: x(rd),
         rs1: x(rs1),
         imm: Immediate::of(imm),
+    }
+}
+
+/// The sum of what two registers have.
+fn add(rd: u8, rs1: u8, rs2: u8) -> Ins
+    requires rd { rd < 32 }
+    requires rs1 { rs1 < 32 }
+    requires rs2 { rs2 < 32 }
+    ensures { result ≡ InsOf.Add rd rs1 rs2 }
+{
+    Ins::Add {
+        rd: x(rd),
+        rs1: x(rs1),
+        rs2: x(rs2),
     }
 }
 

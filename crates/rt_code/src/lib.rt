@@ -11,6 +11,3 @@ mod routines;
 
 pub use code::routine;
 pub use routines::Routine;
-
-#[cfg(test)]
-mod tests;
