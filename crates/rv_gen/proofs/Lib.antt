@@ -1,4 +1,3 @@
 pub mod Near
 pub mod Encoded
-pub mod Values
 pub mod Tests

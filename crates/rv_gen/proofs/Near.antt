@@ -7,8 +7,8 @@ use Rattle.rv_isa.specs.declared.ins.Ins.{Ins}
 use Rattle.rv_gen.specs.Near.{IsAhead, IsBehind, IsInStep}
 use Rattle.rv_gen.specs.Placing.{are_close, branch_limit, far_places, jump_limit, label_at, longest, place_in}
 use Rattle.rv_gen.specs.Placing.{code_from, line_code, places_from, size}
-use Rattle.rv_gen.specs.declared.line.Line.{Line}
-use Rattle.rv_gen.specs.declared.line.Line.TheVariants.{Label, Single, Addressed, Branch, Jump}
+use Rattle.rv_lines.specs.declared.line.Line.{Line}
+use Rattle.rv_lines.specs.declared.line.Line.TheVariants.{Label, Single, Addressed, Branch, Jump}
 
 -- two lists of one length, whose items are related place by place
 abbrev pub Pairs : (ℕ → ℕ → Type 0) → List ℕ → List ℕ → Type 0

@@ -1,5 +1,5 @@
 -- What tests of values say of the words that hold them, and which branches are taken.
-use Rattle.std.proofs.Common.{◌≡◌, ◌∙◌, refl, ℕ, ◌^◌, ◌<◌, ℤ, pos, negsuc, Bool, true, false, not, ◌==◌, int_lt}
+use Rattle.std.proofs.Common.{◌≡◌, ◌∙◌, refl, ℕ, ℤ, Bool, true, false, not, ◌==◌, int_lt}
 use Rattle.std.proofs.Common.{int_eq, ap, sym}
 use Rattle.std.proofs.Common.{arith, Decides, FitsSigned, nat_lt}
 use Rattle.std.specs.Cmp.{signed_Decides, unsigned_Decides}
@@ -14,11 +14,11 @@ use Rattle.num_core.proofs.WrapLaws.{ltb-cast_unsigned}
 use Rattle.rv_step.specs.Machine.{MachineState, branches, effect, register, signed_value}
 use Rattle.lir_core.specs.Values.{holds_of, word_of}
 use Rattle.lir_core.specs.declared.op.Test.{Test}
-use Rattle.rv_gen.specs.Computing.{condition_of}
+use Rattle.rv_lines.specs.Computing.{condition_of}
 use Rattle.rv_gen.specs.Holds.{holds}
 use Rattle.rv_gen.specs.Placing.{branch, opposite}
-use Rattle.rv_gen.specs.declared.line.Condition.{Condition}
-use Rattle.rv_gen.proofs.Values.{bits_of, wide}
+use Rattle.rv_lines.specs.declared.line.Condition.{Condition}
+use Rattle.rv_lines.proofs.Values.{bits_of, wide}
 
 pub taken : (condition : Condition) (x y : ℕ) (d : ℤ) (m : MachineState) (streams : Streams)
     → effect (branch condition x y d) m streams

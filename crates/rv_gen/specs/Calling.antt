@@ -2,9 +2,10 @@
 --
 -- A body's code begins with `lui x0, frame`, which does nothing: who enters the body reads there how many bytes its
 -- frame takes, and goes to the line of the stack's bound before anything is written where they don't fit. Then it puts
--- the arguments and the dictionary into the frame to be, and goes, with the return address in x1. The body takes its
--- frame, saves the return address and the homes that it has, and loads its homes from their slots. A result of one word
--- comes in x10, and of more words their address in x10, in the frame that is gone; they are copied at once.
+-- the arguments and the dictionary into the frame to be, clears what is to be cleared of its own, and goes, with the
+-- return address in x1. The body takes its frame, saves the return address and the homes that it has, and loads its
+-- homes from their slots. A result of one word comes in x10, and of more words their address in x10, in the frame that
+-- is gone; they are copied at once.
 use Rattle.std.specs.Prelude.{ℕ, ◌+◌, ◌*◌, ◌==◌, if◌then◌else◌, pos, ◌-ℤ◌, List, [], ◌∷◌, ◌++◌, take}
 use Rattle.std.specs.Prelude.{Option, Some, None}
 use Rattle.std.specs.List.{flat_map}
@@ -12,6 +13,7 @@ use Rattle.num_core.specs.declared.fix.FixKind.TheVariants.{Code, Routine}
 use Rattle.num_core.specs.declared.fix.FixKind.{FixKind}
 use Rattle.num_core.specs.declared.kind.Narrow.TheVariants.{I8}
 use Rattle.rv_isa.specs.declared.ins.Ins.TheVariants.{Addi, Auipc, Bgeu, Jalr, Ld, Lui, Lwu, Sd, Srli, Sub}
+use Rattle.lir_core.specs.Frame.{most_passed}
 use Rattle.lir_core.specs.declared.op.Argument.{Argument}
 use Rattle.lir_core.specs.declared.op.Block.{Block}
 use Rattle.lir_core.specs.declared.op.Callee.{Callee}
@@ -19,12 +21,12 @@ use Rattle.lir_core.specs.declared.op.Callee.TheVariants.{Body, Through}
 use Rattle.lir_core.specs.declared.body.LirBody.{LirBody}
 use Rattle.rt_code.specs.Effects.{number_of}
 use Rattle.rt_code.specs.declared.routines.Routine.TheVariants.{StackBound}
-use Rattle.rv_gen.specs.Frame.{dictionary_at, first_home, home, home_count, homes_at, return_at, slot_place}
-use Rattle.rv_gen.specs.Moving.{passes_words}
-use Rattle.rv_gen.specs.Operands.{gets_address, gets_slot, is_near, loads_behind, loads_constant, puts_slot, reads_slot}
-use Rattle.rv_gen.specs.Operands.{register_or, stores_behind}
-use Rattle.rv_gen.specs.declared.line.Line.{Line}
-use Rattle.rv_gen.specs.declared.line.Line.TheVariants.{Single, Addressed}
+use Rattle.rv_lines.specs.Frame.{dictionary_at, first_home, home, home_count, homes_at, return_at, slot_place}
+use Rattle.rv_lines.specs.Moving.{clears_words, passes_words}
+use Rattle.rv_lines.specs.Operands.{gets_address, gets_slot, is_near, loads_behind, loads_constant, puts_slot}
+use Rattle.rv_lines.specs.Operands.{reads_slot, register_or, stores_behind}
+use Rattle.rv_lines.specs.declared.line.Line.{Line}
+use Rattle.rv_lines.specs.declared.line.Line.TheVariants.{Single, Addressed}
 
 -- ---- addresses that a fix names
 
@@ -104,6 +106,13 @@ gives_dictionary vars None = []
 gives_dictionary vars (Some slot) =
     reads_slot (home vars slot) 5 slot ++ Single (Sd 31 (register_or (home vars slot) 5) (pos dictionary_at)) ∷ []
 
+-- slots get 0
+abbrev pub clears_block : List ℕ → Block → List Line
+clears_block vars block =
+    if block.words == 0 then []
+    else if block.words == 1 then puts_slot (home vars block.slot) 0 block.slot
+    else (gets_address 6 2 (slot_place block.slot) ++ clears_words block.words)
+
 -- the result goes from x10, or from where x10 says, to its slots
 abbrev pub takes_result : List ℕ → Block → List Line
 takes_result vars block =
@@ -111,17 +120,15 @@ takes_result vars block =
     else if block.words == 1 then puts_slot (home vars block.slot) 10 block.slot
     else Single (Addi 5 10 (pos 0)) ∷ (gets_address 6 2 (slot_place block.slot) ++ passes_words block.words)
 
-abbrev pub calls : List ℕ → Callee → Option ℕ → List Argument → Block → List Line
-calls vars callee dictionary arguments result =
+abbrev pub calls : List ℕ → Callee → Option ℕ → List Argument → Block → Block → List Line
+calls vars callee dictionary arguments cleared result =
     gets_callee vars callee ++ (finds_frame ++ (flat_map (gives_argument vars) arguments
-    ++ (gives_dictionary vars dictionary ++ Single (Jalr 1 30 (pos 0)) ∷ takes_result vars result)))
+    ++ (gives_dictionary vars dictionary ++ (clears_block vars cleared ++ Single (Jalr 1 30 (pos 0))
+    ∷ takes_result vars result))))
 
 -- ---- routines
 
--- a routine takes up to eight words, in x10 to x17
-abbrev pub most_passed : ℕ
-most_passed = 8
-
+-- a routine takes its words in x10 to x17
 abbrev pub passes_to_routine : List ℕ → ℕ → List ℕ → List Line
 passes_to_routine vars register [] = []
 passes_to_routine vars register (slot ∷ slots) =

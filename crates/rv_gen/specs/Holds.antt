@@ -1,9 +1,9 @@
 -- When a branch is taken.
 use Rattle.std.specs.Prelude.{ℕ, Bool, not, ◌==◌, nat_lt, int_lt}
 use Rattle.rv_step.specs.Machine.{signed_value}
-use Rattle.rv_gen.specs.declared.line.Condition.{Condition}
-use Rattle.rv_gen.specs.declared.line.Condition.TheVariants.{Equal, NotEqual, Less, NotLess, LessUnsigned}
-use Rattle.rv_gen.specs.declared.line.Condition.TheVariants.{NotLessUnsigned}
+use Rattle.rv_lines.specs.declared.line.Condition.{Condition}
+use Rattle.rv_lines.specs.declared.line.Condition.TheVariants.{Equal, NotEqual, Less, NotLess, LessUnsigned}
+use Rattle.rv_lines.specs.declared.line.Condition.TheVariants.{NotLessUnsigned}
 
 -- whether a condition holds of the words of two registers
 abbrev pub holds : Condition → ℕ → ℕ → Bool

@@ -1,7 +1,3 @@
-pub mod Frame
-pub mod Operands
-pub mod Computing
-pub mod Moving
 pub mod Calling
 pub mod Lines
 pub mod Placing

@@ -7,18 +7,18 @@ use Rattle.lir_core.specs.declared.op.LirOp.{LirOp}
 use Rattle.lir_core.specs.declared.op.LirOp.TheVariants.{Constant, Address, SlotAddress, Dictionary, Move, Load}
 use Rattle.lir_core.specs.declared.op.LirOp.TheVariants.{Store, Copy, Clear, Binary, Unary, Checked, Divide, Shift}
 use Rattle.lir_core.specs.declared.op.LirOp.TheVariants.{Convert, ConvertChecked, Compare, Branch, BranchIfZero}
-use Rattle.lir_core.specs.declared.op.LirOp.TheVariants.{BranchUnlessZero, Jump, Call, Routine, Raise, Leave}
-use Rattle.lir_core.specs.declared.op.LirOp.TheVariants.{EndHandler, Return}
+use Rattle.lir_core.specs.declared.op.LirOp.TheVariants.{BranchUnlessZero, Jump, Call, Routine, Raise, Rethrow}
+use Rattle.lir_core.specs.declared.op.LirOp.TheVariants.{Leave, EndHandler, Return}
 use Rattle.rt_code.specs.Effects.{number_of}
 use Rattle.rt_code.specs.declared.routines.Routine.TheVariants.{Unhandled}
 use Rattle.rv_gen.specs.Calling.{calls, does_routine, enters, gets_item, goes_to_routine, returns}
-use Rattle.rv_gen.specs.Computing.{changes, combines, combines_checked, compares, condition_of, converts}
-use Rattle.rv_gen.specs.Computing.{converts_checked, divides, shifts}
-use Rattle.rv_gen.specs.Frame.{dictionary_at, home, slot_place}
-use Rattle.rv_gen.specs.Moving.{clears, copies, loads_place, moves, stores_place}
-use Rattle.rv_gen.specs.Operands.{gets_address, loads_constant, puts_slot, reads_slot, register_or, writes_slot}
-use Rattle.rv_gen.specs.declared.line.Condition.{Condition}
-use Rattle.rv_gen.specs.declared.line.Line.{Line}
+use Rattle.rv_lines.specs.Computing.{changes, combines, combines_checked, compares, condition_of, converts}
+use Rattle.rv_lines.specs.Computing.{converts_checked, divides, shifts}
+use Rattle.rv_lines.specs.Frame.{dictionary_at, home, slot_place}
+use Rattle.rv_lines.specs.Moving.{clears, copies, loads_place, moves, stores_place}
+use Rattle.rv_lines.specs.Operands.{gets_address, loads_constant, puts_slot, reads_slot, register_or, writes_slot}
+use Rattle.rv_lines.specs.declared.line.Condition.{Condition}
+use Rattle.rv_lines.specs.declared.line.Line.{Line}
 
 -- what gives a word to a register gives it to a slot: to its home, or to x7 and from there
 abbrev pub to_slot : List ℕ → ℕ → (ℕ → List Line) → List Line
@@ -71,10 +71,12 @@ op_lines body (BranchIfZero value label) =
 op_lines body (BranchUnlessZero value label) =
     with_one body.vars value (λ x. Line.Branch Condition.NotEqual x 0 label ∷ [])
 op_lines body (Jump label) = Line.Jump label ∷ []
-op_lines body (Call callee dictionary arguments result) = calls body.vars callee dictionary arguments result
+op_lines body (Call callee dictionary arguments cleared result) =
+    calls body.vars callee dictionary arguments cleared result
 op_lines body (Routine number arguments result) = does_routine body.vars number arguments result
 -- as in a program without handlers
 op_lines body (Raise object) = goes_to_routine (number_of Unhandled)
+op_lines body Rethrow = goes_to_routine (number_of Unhandled)
 op_lines body (Leave label) = Line.Jump label ∷ []
 op_lines body EndHandler = goes_to_routine (number_of Unhandled)
 op_lines body (Return result) = returns body result

@@ -12,11 +12,11 @@ use Rattle.rv_isa.specs.declared.ins.Ins.TheVariants.{Auipc, Beq, Bge, Bgeu, Blt
 use Rattle.lir_core.specs.declared.body.LirBody.{LirBody}
 use Rattle.rt_code.specs.Code.{lower, upper}
 use Rattle.rv_gen.specs.Lines.{lines_of}
-use Rattle.rv_gen.specs.declared.line.Condition.{Condition}
-use Rattle.rv_gen.specs.declared.line.Condition.TheVariants.{Equal, NotEqual, Less, NotLess, LessUnsigned}
-use Rattle.rv_gen.specs.declared.line.Condition.TheVariants.{NotLessUnsigned}
-use Rattle.rv_gen.specs.declared.line.Line.{Line}
-use Rattle.rv_gen.specs.declared.line.Line.TheVariants.{Label, Single, Addressed, Branch, Jump}
+use Rattle.rv_lines.specs.declared.line.Condition.{Condition}
+use Rattle.rv_lines.specs.declared.line.Condition.TheVariants.{Equal, NotEqual, Less, NotLess, LessUnsigned}
+use Rattle.rv_lines.specs.declared.line.Condition.TheVariants.{NotLessUnsigned}
+use Rattle.rv_lines.specs.declared.line.Line.{Line}
+use Rattle.rv_lines.specs.declared.line.Line.TheVariants.{Label, Single, Addressed, Branch, Jump}
 
 -- how many instructions a line is in its longest form
 abbrev pub longest : Line → ℕ

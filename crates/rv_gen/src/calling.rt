@@ -3,22 +3,23 @@ ghost use Rattle.std.specs.List.{flat_map};
 ghost use Rattle.rt_code.specs.Effects.{number_of};
 ghost use Rattle.rv_isa.specs.Operands.{IsImmediate};
 ghost use Rattle.rv_isa.specs.declared.ins.Ins.{Ins as InsOf};
-ghost use Rattle.rv_gen.specs.declared.line.Line.TheVariants.{Single};
-ghost use Rattle.rv_gen.specs.Calling.{calls, calls_routine, does_routine, enters, finds_frame, gets_callee, gets_item};
-ghost use Rattle.rv_gen.specs.Calling.{gives_argument, gives_dictionary, gives_result, goes_to_routine};
+ghost use Rattle.rv_lines.specs.declared.line.Line.TheVariants.{Single};
+ghost use Rattle.rv_gen.specs.Calling.{calls, calls_routine, clears_block, does_routine, enters, finds_frame};
+ghost use Rattle.rv_gen.specs.Calling.{gets_callee, gets_item, gives_argument, gives_dictionary, gives_result};
+ghost use Rattle.rv_gen.specs.Calling.{goes_to_routine};
 ghost use Rattle.rv_gen.specs.Calling.{loads_homes, passes_to_routine, restores_homes, returns, saves_homes};
 ghost use Rattle.rv_gen.specs.Calling.{takes_frame, takes_result, takes_word};
 
-use crate::line::Line;
-use crate::moving::pass_words;
-use crate::operands::{
-    addi, first_eight, get_address, get_slot, load_behind, load_constant, put_slot, read_slot,
-    register_of, slot_place, store_behind, x,
-};
 use lir_core::{Argument, Block, Callee, LirBody};
 use num_core::{FixKind, List, Memory, Narrow};
 use rt_code::Routine;
 use rv_isa::{BranchOffset, Immediate, Ins, Register, ShiftAmount, UpperImmediate};
+use rv_lines::line::Line;
+use rv_lines::moving::{clear_words, pass_words};
+use rv_lines::operands::{
+    addi, first_eight, get_address, get_slot, load_behind, load_constant, put_slot, read_slot,
+    register_of, slot_place, store_behind, x,
+};
 
 /// Where a frame has its return address.
 const RETURN_AT: i16 = 0;
@@ -320,6 +321,20 @@ fn give_dictionary(
     }
 }
 
+/// Slots get 0.
+fn clear_block(lines: &mut List<Line>, vars: &[u32], block: Block) -> Result<(), Memory>
+    ensures { OnOk result (lines.new ≡ lines.old ++ clears_block vars.now block) }
+{
+    if block.words == 0 {
+        return Ok(());
+    }
+    if block.words == 1 {
+        return put_slot(lines, vars, block.slot, x(0));
+    }
+    get_address(lines, x(6), x(2), slot_place(block.slot))?;
+    clear_words(lines, block.words)
+}
+
 /// The result of a call goes to its slots.
 fn take_result(lines: &mut List<Line>, vars: &[u32], block: Block) -> Result<(), Memory>
     ensures { OnOk result (lines.new ≡ lines.old ++ takes_result vars.now block) }
@@ -342,14 +357,16 @@ pub(crate) fn call(
     callee: Callee,
     dictionary: Option<u32>,
     arguments: &[Argument],
+    cleared: Block,
     block: Block,
 ) -> Result<(), Memory>
-    ensures { OnOk result (lines.new ≡ lines.old ++ calls vars.now callee dictionary arguments.now block) }
+    ensures { OnOk result (lines.new ≡ lines.old ++ calls vars.now callee dictionary arguments.now cleared block) }
 {
     get_callee(lines, vars, callee)?;
     find_frame(lines)?;
     give_arguments(lines, vars, arguments)?;
     give_dictionary(lines, vars, dictionary)?;
+    clear_block(lines, vars, cleared)?;
     lines.extend_from_slice(&[Line::Single(jump_to(x(1), x(30)))])?;
     take_result(lines, vars, block)
 }
@@ -385,7 +402,7 @@ fn take_word(lines: &mut List<Line>, vars: &[u32], to: Option<u32>) -> Result<()
     }
 }
 
-/// What a routine does with the words of slots.
+/// What a routine does with the words of slots, of which it takes eight.
 pub(crate) fn do_routine(
     lines: &mut List<Line>,
     vars: &[u32],

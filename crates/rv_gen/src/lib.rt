@@ -7,11 +7,7 @@
 #![tactic(auto)]
 
 mod calling;
-mod computing;
 pub mod laws;
-mod line;
-mod moving;
-mod operands;
 mod operations;
 mod placing;
 mod selection;

@@ -1,7 +1,7 @@
 ghost use Rattle.std.specs.Prelude.{◌≡◌, ◌++◌, ◌∷◌, [], OnOk, IfOk};
-ghost use Rattle.rv_gen.specs.Frame.{home as home_of};
-ghost use Rattle.rv_gen.specs.Operands.{reads_slot, register_or as register_or_of};
-ghost use Rattle.rv_gen.specs.declared.line.Line.{Line as LineOf};
+ghost use Rattle.rv_lines.specs.Frame.{home as home_of};
+ghost use Rattle.rv_lines.specs.Operands.{reads_slot, register_or as register_or_of};
+ghost use Rattle.rv_lines.specs.declared.line.Line.{Line as LineOf};
 ghost use Rattle.rv_gen.specs.Lines.{op_lines, ops_lines, with_one};
 ghost use Rattle.lir_core.specs.Values.{word_of as word_of_value};
 ghost use Rattle.lir_core.specs.declared.op.LirOp.{LirOp as LirOpOf};
@@ -9,21 +9,21 @@ ghost use Rattle.lir_core.specs.declared.op.LirOp.{LirOp as LirOpOf};
 use crate::calling::{
     DICTIONARY_AT, call, do_routine, get_item, go_to_routine, load_fixed, return_from,
 };
-use crate::computing::{
-    change, combine, combine_checked, compare, condition_of, convert, convert_checked, divide,
-    shift,
-};
-use crate::line::{Condition, Line};
-use crate::moving::{clear, copy, load_place, move_word, store_place};
-use crate::operands::{
-    get_address, load_constant, put_slot, read_slot, register_of, slot_place, write_slot, x,
-};
 use lir_core::{
     BinaryOperation, CheckedOperation, DivisionPart, LirBody, LirOp, Place, Test, UnaryOperation,
 };
 use num_core::{FixKind, Kind, List, Memory, Narrow, ShiftOp};
 use rt_code::Routine;
 use rv_isa::Register;
+use rv_lines::computing::{
+    change, combine, combine_checked, compare, condition_of, convert, convert_checked, divide,
+    shift,
+};
+use rv_lines::line::{Condition, Line};
+use rv_lines::moving::{clear, copy, load_place, move_word, store_place};
+use rv_lines::operands::{
+    get_address, load_constant, put_slot, read_slot, register_of, slot_place, write_slot, x,
+};
 
 /// The words of two slots in registers: their homes, or x5 and x6.
 fn read_two(
@@ -433,6 +433,7 @@ pub(crate) fn operation(lines: &mut List<Line>, body: &LirBody, op: &LirOp) -> R
             callee,
             dictionary,
             arguments,
+            cleared,
             result,
         } => call(
             lines,
@@ -440,6 +441,7 @@ pub(crate) fn operation(lines: &mut List<Line>, body: &LirBody, op: &LirOp) -> R
             *callee,
             *dictionary,
             arguments.as_slice(),
+            *cleared,
             *result,
         ),
         LirOp::Routine {
@@ -453,7 +455,9 @@ pub(crate) fn operation(lines: &mut List<Line>, body: &LirBody, op: &LirOp) -> R
             arguments.as_slice(),
             *result,
         ),
-        LirOp::Raise { .. } | LirOp::EndHandler => go_to_routine(lines, Routine::Unhandled),
+        LirOp::Raise { .. } | LirOp::Rethrow | LirOp::EndHandler => {
+            go_to_routine(lines, Routine::Unhandled)
+        }
         LirOp::Return { result } => return_from(lines, body, *result),
     }
 }

@@ -9,11 +9,11 @@ ghost use Rattle.rv_gen.specs.Placing.{size as size_of, branch_limit, code_in, f
 ghost use Rattle.rv_gen.specs.Placing.{rows_by};
 ghost use Rattle.rv_gen.specs.Near.{IsInStep};
 
-use crate::line::{Condition, Line};
-use crate::operands::{lower, upper, x};
 use crate::selection::Code;
 use num_core::{Fix, List, Memory};
 use rv_isa::{BranchOffset, Immediate, Ins, JumpOffset, Register, encode};
+use rv_lines::line::{Condition, Line};
+use rv_lines::operands::{lower, upper, x};
 use std::alloc::Global;
 
 /// Fewer instructions than a branch and a jump can reach.

@@ -5,11 +5,11 @@ ghost use Rattle.rv_gen.specs.Lines.{lines_of};
 ghost use Rattle.rv_gen.specs.Placing.{code_of, fixes_of, map_of, words_of};
 
 use crate::calling::enter;
-use crate::line::Line;
 use crate::operations::operations;
 use crate::placing::place_code;
 use lir_core::LirBody;
 use num_core::{Fix, List, Memory};
+use rv_lines::line::Line;
 use std::alloc::Global;
 
 /// The code of a body.

@@ -1,10 +1,10 @@
 ghost use Rattle.std.specs.Prelude.{◌≡◌, ◌+◌, ◌*◌, ◌++◌, ◌<◌, ◌≤◌, OnOk};
 ghost use Rattle.lir_core.specs.Pieces.{bytes_of_type};
-ghost use Rattle.rv_gen.specs.Frame.{home as home_of};
-ghost use Rattle.rv_gen.specs.Moving.{bytes_place as bytes_place_of, clears, clears_number};
-ghost use Rattle.rv_gen.specs.Moving.{clears_rest, clears_word, clears_words, copies, finds_end, passes_word};
-ghost use Rattle.rv_gen.specs.Moving.{gets_place, home_of_bytes as home_of_bytes_is, loads_frame, loads_place, moves};
-ghost use Rattle.rv_gen.specs.Moving.{passes, passes_bytes, passes_rest, passes_words, stores_frame, stores_place};
+ghost use Rattle.rv_lines.specs.Frame.{home as home_of};
+ghost use Rattle.rv_lines.specs.Moving.{bytes_place as bytes_place_of, clears, clears_number};
+ghost use Rattle.rv_lines.specs.Moving.{clears_rest, clears_word, clears_words, copies, finds_end, passes_word};
+ghost use Rattle.rv_lines.specs.Moving.{gets_place, home_of_bytes as home_of_bytes_is, loads_frame, loads_place, moves};
+ghost use Rattle.rv_lines.specs.Moving.{passes, passes_bytes, passes_rest, passes_words, stores_frame, stores_place};
 
 use crate::line::Line;
 use crate::operands::{
@@ -16,12 +16,7 @@ use num_core::{List, Memory, Narrow};
 use rv_isa::{BranchOffset, Immediate, Ins, Register};
 
 /// The word of a slot goes to another.
-pub(crate) fn move_word(
-    lines: &mut List<Line>,
-    vars: &[u32],
-    to: u32,
-    from: u32,
-) -> Result<(), Memory>
+pub fn move_word(lines: &mut List<Line>, vars: &[u32], to: u32, from: u32) -> Result<(), Memory>
     ensures { OnOk result (lines.new ≡ lines.old ++ moves (home_of vars.now to) (home_of vars.now from) to from) }
 {
     match home(vars, to) {
@@ -104,7 +99,7 @@ fn store_frame(
 }
 
 /// A number at a place to a register.
-pub(crate) fn load_place(
+pub fn load_place(
     lines: &mut List<Line>,
     vars: &[u32],
     narrow: Narrow,
@@ -132,7 +127,7 @@ pub(crate) fn load_place(
 }
 
 /// A number from a register to a place.
-pub(crate) fn store_place(
+pub fn store_place(
     lines: &mut List<Line>,
     vars: &[u32],
     narrow: Narrow,
@@ -223,7 +218,7 @@ fn pass_word(lines: &mut List<Line>) -> Result<(), Memory>
 }
 
 /// So many words go from the address in x5 to that in x6, one after another.
-pub(crate) fn pass_words(lines: &mut List<Line>, words: u32) -> Result<(), Memory>
+pub fn pass_words(lines: &mut List<Line>, words: u32) -> Result<(), Memory>
     ensures { OnOk result (lines.new ≡ lines.old ++ passes_words words) }
 {
     if words == 0 {
@@ -258,7 +253,7 @@ fn pass_bytes(lines: &mut List<Line>, bytes: u32) -> Result<(), Memory>
 }
 
 /// Bytes go from a place to another.
-pub(crate) fn copy(
+pub fn copy(
     lines: &mut List<Line>,
     vars: &[u32],
     to: Place,
@@ -304,7 +299,7 @@ fn clear_word(lines: &mut List<Line>) -> Result<(), Memory>
 }
 
 /// So many words of 0 from the address in x6 on.
-fn clear_words(lines: &mut List<Line>, words: u32) -> Result<(), Memory>
+pub fn clear_words(lines: &mut List<Line>, words: u32) -> Result<(), Memory>
     ensures { OnOk result (lines.new ≡ lines.old ++ clears_words words) }
 {
     if words == 0 {
@@ -331,12 +326,7 @@ fn clear_rest(lines: &mut List<Line>, rest: u8) -> Result<(), Memory>
 }
 
 /// Bytes of 0 at a place.
-pub(crate) fn clear(
-    lines: &mut List<Line>,
-    vars: &[u32],
-    to: Place,
-    bytes: u32,
-) -> Result<(), Memory>
+pub fn clear(lines: &mut List<Line>, vars: &[u32], to: Place, bytes: u32) -> Result<(), Memory>
     ensures { OnOk result (lines.new ≡ lines.old ++ clears vars.now to bytes) }
 {
     if bytes == 8 {

@@ -8,9 +8,9 @@ use Rattle.rv_isa.specs.declared.ins.Ins.{Ins}
 use Rattle.rv_isa.specs.declared.ins.Ins.TheVariants.{Add, Addi, Addiw, Lb, Lbu, Ld, Lh, Lhu, Lui, Lw, Ori, Sb, Sd, Sh}
 use Rattle.rv_isa.specs.declared.ins.Ins.TheVariants.{Slli, Sw}
 use Rattle.rt_code.specs.Code.{lower, upper}
-use Rattle.rv_gen.specs.Frame.{slot_place}
-use Rattle.rv_gen.specs.declared.line.Line.{Line}
-use Rattle.rv_gen.specs.declared.line.Line.TheVariants.{Single}
+use Rattle.rv_lines.specs.Frame.{slot_place}
+use Rattle.rv_lines.specs.declared.line.Line.{Line}
+use Rattle.rv_lines.specs.declared.line.Line.TheVariants.{Single}
 
 -- ---- constants
 

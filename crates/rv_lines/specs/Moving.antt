@@ -8,11 +8,11 @@ use Rattle.lir_core.specs.Frame.{fixed_bytes}
 use Rattle.lir_core.specs.Pieces.{bytes_of_type}
 use Rattle.lir_core.specs.declared.op.Place.{Place}
 use Rattle.lir_core.specs.declared.op.Place.TheVariants.{Slot, Flat}
-use Rattle.rv_gen.specs.Frame.{home, slot_place}
-use Rattle.rv_gen.specs.Operands.{gets_address, gets_slot, loads, loads_behind, loads_constant, reads_slot, register_or}
-use Rattle.rv_gen.specs.Operands.{stores, stores_behind}
-use Rattle.rv_gen.specs.declared.line.Line.{Line}
-use Rattle.rv_gen.specs.declared.line.Line.TheVariants.{Single}
+use Rattle.rv_lines.specs.Frame.{home, slot_place}
+use Rattle.rv_lines.specs.Operands.{gets_address, gets_slot, loads, loads_behind, loads_constant, reads_slot}
+use Rattle.rv_lines.specs.Operands.{register_or, stores, stores_behind}
+use Rattle.rv_lines.specs.declared.line.Line.{Line}
+use Rattle.rv_lines.specs.declared.line.Line.TheVariants.{Single}
 
 -- from a slot to another, each with its home
 abbrev pub moves : Option ℕ → Option ℕ → ℕ → ℕ → List Line

@@ -1,5 +1,5 @@
 use Rattle.std.proofs.Common.{length}
-use Rattle.rv_gen.proofs.operands.+home_among.Given as goal
+use Rattle.rv_lines.proofs.operands.+home_among.Given as goal
 
 abbrev pub decreases-home_among : goal.decreases-home_among
 decreases-home_among l = length l.vars.now

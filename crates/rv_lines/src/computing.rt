@@ -1,15 +1,15 @@
 ghost use Rattle.std.specs.Prelude.{◌≡◌, ◌++◌, ◌<◌, pos, OnOk};
 ghost use Rattle.num_core.specs.declared.kind.Kind.{Kind as KindOf};
 ghost use Rattle.rv_isa.specs.declared.ins.Ins.{Ins as InsOf};
-ghost use Rattle.rv_gen.specs.declared.line.Line.TheVariants.{Single};
-ghost use Rattle.rv_gen.specs.Computing.{adds_checked, changes, combines, combines_checked, compares};
-ghost use Rattle.rv_gen.specs.Computing.{condition_of as condition_of_test, converts, converts_checked, converts_to_i4};
-ghost use Rattle.rv_gen.specs.Computing.{converts_to_i8, converts_to_u4, converts_to_u8, divides, divides_by};
-ghost use Rattle.rv_gen.specs.Computing.{extends_by_zeros, extends_sign, gets_least, has_four_bytes};
-ghost use Rattle.rv_gen.specs.Computing.{is_less as is_less_of, keeps, keeps_low, keeps_low_signed, keeps_short};
-ghost use Rattle.rv_gen.specs.Computing.{keeps_unsigned, multiplies_checked, narrows_to_32, refuses_least, shifts};
-ghost use Rattle.rv_gen.specs.Computing.{subtracts_checked, unless_same as unless_same_of, if_less as if_less_of};
-ghost use Rattle.rv_gen.specs.Computing.{widens_unsigned};
+ghost use Rattle.rv_lines.specs.declared.line.Line.TheVariants.{Single};
+ghost use Rattle.rv_lines.specs.Computing.{adds_checked, changes, combines, combines_checked, compares};
+ghost use Rattle.rv_lines.specs.Computing.{condition_of as condition_of_test, converts, converts_checked};
+ghost use Rattle.rv_lines.specs.Computing.{converts_to_i4, converts_to_i8, converts_to_u4, converts_to_u8, divides};
+ghost use Rattle.rv_lines.specs.Computing.{divides_by, extends_by_zeros, extends_sign, gets_least, has_four_bytes};
+ghost use Rattle.rv_lines.specs.Computing.{is_less as is_less_of, keeps, keeps_low, keeps_low_signed, keeps_short};
+ghost use Rattle.rv_lines.specs.Computing.{keeps_unsigned, multiplies_checked, narrows_to_32, refuses_least, shifts};
+ghost use Rattle.rv_lines.specs.Computing.{subtracts_checked, unless_same as unless_same_of, if_less as if_less_of};
+ghost use Rattle.rv_lines.specs.Computing.{widens_unsigned};
 ghost use Rattle.num_core.specs.Integers.{is_signed as is_signed_kind};
 
 use crate::line::{Condition, Line};
@@ -39,7 +39,7 @@ fn is_signed(kind: Kind) -> bool
 }
 
 /// What two registers give, wrapped.
-pub(crate) fn combine(
+pub fn combine(
     operation: BinaryOperation,
     kind: Kind,
     rd: Register,
@@ -63,7 +63,7 @@ pub(crate) fn combine(
 }
 
 /// What one register gives, wrapped.
-pub(crate) fn change(operation: UnaryOperation, kind: Kind, rd: Register, rs: Register) -> Ins
+pub fn change(operation: UnaryOperation, kind: Kind, rd: Register, rs: Register) -> Ins
     ensures { result ≡ changes operation kind rd rs }
 {
     let rs1 = x(0);
@@ -79,13 +79,7 @@ pub(crate) fn change(operation: UnaryOperation, kind: Kind, rd: Register, rs: Re
 }
 
 /// A register moved by the low bits of another.
-pub(crate) fn shift(
-    operation: ShiftOp,
-    kind: Kind,
-    rd: Register,
-    rs1: Register,
-    rs2: Register,
-) -> Ins
+pub fn shift(operation: ShiftOp, kind: Kind, rd: Register, rs1: Register, rs2: Register) -> Ins
     ensures { result ≡ shifts operation kind rd rs1 rs2 }
 {
     let short = has_four_bytes(kind);
@@ -181,7 +175,7 @@ fn widen_unsigned(
 }
 
 /// A conversion that refuses nothing.
-pub(crate) fn convert(
+pub fn convert(
     lines: &mut List<Line>,
     narrow: Narrow,
     kind: Kind,
@@ -215,7 +209,7 @@ fn is_less(kind: Kind, rd: Register, rs1: Register, rs2: Register) -> Ins
 }
 
 /// 1 where the test holds of two registers, and else 0.
-pub(crate) fn compare(
+pub fn compare(
     lines: &mut List<Line>,
     test: Test,
     kind: Kind,
@@ -262,7 +256,7 @@ pub(crate) fn compare(
 }
 
 /// The condition of a branch by a test.
-pub(crate) fn condition_of(test: Test, kind: Kind) -> Condition
+pub fn condition_of(test: Test, kind: Kind) -> Condition
     ensures { result ≡ condition_of_test test kind }
 {
     match test {
@@ -518,7 +512,7 @@ fn multiply_u4_checked(
 }
 
 /// The result of a checked operation in x7, or on to a label.
-pub(crate) fn combine_checked(
+pub fn combine_checked(
     lines: &mut List<Line>,
     operation: CheckedOperation,
     kind: Kind,
@@ -656,7 +650,7 @@ fn convert_to_u8(
 }
 
 /// The same number as a value of a type in x7, or on to a label.
-pub(crate) fn convert_checked(
+pub fn convert_checked(
     lines: &mut List<Line>,
     narrow: Narrow,
     kind: Kind,
@@ -751,7 +745,7 @@ fn divide_by(part: DivisionPart, kind: Kind, rd: Register, rs1: Register, rs2: R
 }
 
 /// A part of a division, or on to a label where the divisor is 0, and to another where the result is out of range.
-pub(crate) fn divide(
+pub fn divide(
     lines: &mut List<Line>,
     part: DivisionPart,
     kind: Kind,

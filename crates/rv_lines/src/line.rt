@@ -3,7 +3,7 @@ use rv_isa::{Ins, Register};
 
 /// A line of a body's code, before its labels have places.
 #[derive(Clone, Copy)]
-pub(crate) enum Line {
+pub enum Line {
     /// The operation of the next number begins here.
     Label,
     /// An instruction.
@@ -30,7 +30,7 @@ pub(crate) enum Line {
 
 /// The conditions of branches.
 #[derive(Clone, Copy)]
-pub(crate) enum Condition {
+pub enum Condition {
     Equal,
     NotEqual,
     /// The first is less, both signed.

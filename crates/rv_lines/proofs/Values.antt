@@ -8,7 +8,7 @@ use Rattle.std.specs.Int.{cast_signed, cast_unsigned, w32, w64, int_wrap, int_re
 use Rattle.std.specs.Int.{int_bit_xor}
 use Rattle.std.proofs.lemmas.Nat.{and_le_l, or_lt, xor_lt}
 use Rattle.num_core.specs.Bits.{low_bits}
-use Rattle.num_core.specs.Integers.{IsOfKind, held, number}
+use Rattle.num_core.specs.Integers.{IsOfKind, number}
 use Rattle.num_core.specs.Run.{Running, Streams}
 use Rattle.num_core.specs.declared.kind.Kind.{Kind}
 use Rattle.num_core.specs.declared.kind.Kind.TheVariants.{I4, U4, I8, U8}
@@ -19,7 +19,7 @@ use Rattle.rv_code.specs.Code.{given}
 use Rattle.lir_core.specs.Values.{combined, word_of}
 use Rattle.lir_core.specs.declared.op.BinaryOperation.{BinaryOperation}
 use Rattle.lir_core.specs.declared.op.BinaryOperation.TheVariants.{Add, Subtract, Multiply, And, Or, ExclusiveOr}
-use Rattle.rv_gen.specs.Computing.{combines}
+use Rattle.rv_lines.specs.Computing.{combines}
 
 -- ---- the bits of a number, and what is left of it in so many
 
@@ -235,8 +235,11 @@ wrapped_operation Multiply U8 m s r x y a b fa fb e f =
     ap (λ v. Running (given r v m) s)
     (product_64 (register m x) (register m y) a b (number U8 a) (number U8 b) e f (number_64 a fa) (number_64 b fb))
 wrapped_operation And kind m s r x y a b fa fb e f =
-    ap (λ v. Running (given r v m) s) (bit_and_value (register m x) (register m y) a b e f (wide kind a fa) (wide kind b fb))
+    ap (λ v. Running (given r v m) s)
+    (bit_and_value (register m x) (register m y) a b e f (wide kind a fa) (wide kind b fb))
 wrapped_operation Or kind m s r x y a b fa fb e f =
-    ap (λ v. Running (given r v m) s) (bit_or_value (register m x) (register m y) a b e f (wide kind a fa) (wide kind b fb))
+    ap (λ v. Running (given r v m) s)
+    (bit_or_value (register m x) (register m y) a b e f (wide kind a fa) (wide kind b fb))
 wrapped_operation ExclusiveOr kind m s r x y a b fa fb e f =
-    ap (λ v. Running (given r v m) s) (bit_xor_value (register m x) (register m y) a b e f (wide kind a fa) (wide kind b fb))
+    ap (λ v. Running (given r v m) s)
+    (bit_xor_value (register m x) (register m y) a b e f (wide kind a fa) (wide kind b fb))

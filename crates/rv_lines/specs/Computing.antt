@@ -16,9 +16,9 @@ use Rattle.lir_core.specs.declared.op.DivisionPart.TheVariants.{Quotient, Remain
 use Rattle.lir_core.specs.declared.op.Test.{Test}
 use Rattle.lir_core.specs.declared.op.UnaryOperation.{UnaryOperation}
 use Rattle.lir_core.specs.declared.op.UnaryOperation.TheVariants.{Negate, Complement}
-use Rattle.rv_gen.specs.declared.line.Condition.{Condition}
-use Rattle.rv_gen.specs.declared.line.Line.{Line}
-use Rattle.rv_gen.specs.declared.line.Line.TheVariants.{Single, Branch}
+use Rattle.rv_lines.specs.declared.line.Condition.{Condition}
+use Rattle.rv_lines.specs.declared.line.Line.{Line}
+use Rattle.rv_lines.specs.declared.line.Line.TheVariants.{Single, Branch}
 
 -- whether the kind has four bytes
 abbrev pub has_four_bytes : Kind → Bool

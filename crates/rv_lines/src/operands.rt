@@ -1,14 +1,14 @@
 ghost use Rattle.std.specs.Prelude.{◌≡◌, ◌+◌, ◌/◌, ◌%◌, ◌^◌, ◌++◌, ◌<◌, ◌≤◌, length, take, OnOk};
 ghost use Rattle.rv_isa.specs.Operands.{IsImmediate};
 ghost use Rattle.rv_isa.specs.declared.ins.Ins.TheVariants.{Addi as AddiOf};
-ghost use Rattle.rv_gen.specs.declared.line.Line.TheVariants.{Single};
-ghost use Rattle.rv_gen.specs.Frame.{home as home_of, home_among as home_among_of, slot_place as slot_place_of};
-ghost use Rattle.rv_gen.specs.Operands.{adds_far, gets_address, gets_slot, is_of_12_bits};
-ghost use Rattle.rv_gen.specs.Operands.{is_of_32_bits, loads, loads_32_bits, loads_64_bits, loads_behind};
-ghost use Rattle.rv_gen.specs.Operands.{loads_constant, puts_slot};
-ghost use Rattle.rv_gen.specs.Operands.{reads_slot, register_or as register_or_of, stores, stores_behind, takes_bits};
-ghost use Rattle.rv_gen.specs.Operands.{takes_lower_bits};
-ghost use Rattle.rv_gen.specs.Operands.{writes_slot};
+ghost use Rattle.rv_lines.specs.declared.line.Line.TheVariants.{Single};
+ghost use Rattle.rv_lines.specs.Frame.{home as home_of, home_among as home_among_of, slot_place as slot_place_of};
+ghost use Rattle.rv_lines.specs.Operands.{adds_far, gets_address, gets_slot, is_of_12_bits};
+ghost use Rattle.rv_lines.specs.Operands.{is_of_32_bits, loads, loads_32_bits, loads_64_bits, loads_behind};
+ghost use Rattle.rv_lines.specs.Operands.{loads_constant, puts_slot};
+ghost use Rattle.rv_lines.specs.Operands.{reads_slot, register_or as register_or_of, stores, stores_behind, takes_bits};
+ghost use Rattle.rv_lines.specs.Operands.{takes_lower_bits};
+ghost use Rattle.rv_lines.specs.Operands.{writes_slot};
 ghost use Rattle.rt_code.specs.Code.{lower as lower_of, upper as upper_of};
 
 use crate::line::Line;
@@ -17,7 +17,7 @@ use num_core::{List, Memory, Narrow};
 use rv_isa::{Immediate, Ins, Register, ShiftAmount, UpperImmediate};
 
 /// A register by its number.
-pub(crate) fn x(number: u8) -> Register
+pub fn x(number: u8) -> Register
     requires { number < 32 }
     ensures { result ≡ number }
 {
@@ -25,7 +25,7 @@ pub(crate) fn x(number: u8) -> Register
 }
 
 /// `addi` by a distance.
-pub(crate) fn addi(rd: Register, rs1: Register, imm: i16) -> Line
+pub fn addi(rd: Register, rs1: Register, imm: i16) -> Line
     requires { IsImmediate imm }
     ensures { result ≡ Single (AddiOf rd rs1 imm) }
 {
@@ -37,14 +37,14 @@ pub(crate) fn addi(rd: Register, rs1: Register, imm: i16) -> Line
 }
 
 /// Where a slot lies in its frame.
-pub(crate) fn slot_place(slot: u32) -> u64
+pub fn slot_place(slot: u32) -> u64
     ensures { result ≡ slot_place_of slot }
 {
     u64::from(FIXED_BYTES) + 8 * u64::from(slot)
 }
 
 /// The first eight of slots.
-pub(crate) fn first_eight(slots: &[u32]) -> &[u32]
+pub fn first_eight(slots: &[u32]) -> &[u32]
     ensures value { result.now ≡ take 8 slots.now }
     ensures few { length result.now ≤ 8 }
 {
@@ -52,14 +52,14 @@ pub(crate) fn first_eight(slots: &[u32]) -> &[u32]
 }
 
 /// The home of a slot, if it is one of the first eight variables.
-pub(crate) fn home(vars: &[u32], slot: u32) -> Option<Register>
+pub fn home(vars: &[u32], slot: u32) -> Option<Register>
     ensures { result ≡ home_of vars.now slot }
 {
     home_of_word(vars, u64::from(slot))
 }
 
 /// The home of the slot of a number, if it is one of the first eight variables.
-pub(crate) fn home_of_word(vars: &[u32], slot: u64) -> Option<Register>
+pub fn home_of_word(vars: &[u32], slot: u64) -> Option<Register>
     ensures { result ≡ home_of vars.now slot }
 {
     home_among(18, first_eight(vars), slot)
@@ -86,7 +86,7 @@ fn home_among(register: u8, vars: &[u32], slot: u64) -> Option<Register>
 
 /// A register gets a word.
 #[tactic(auto, unfolding(crate::specs::Operands::loads_constant))]
-pub(crate) fn load_constant(lines: &mut List<Line>, rd: Register, word: u64) -> Result<(), Memory>
+pub fn load_constant(lines: &mut List<Line>, rd: Register, word: u64) -> Result<(), Memory>
     ensures { OnOk result (lines.new ≡ lines.old ++ loads_constant rd word) }
 {
     if is_of_12_bits(word) {
@@ -187,14 +187,14 @@ fn take_bits(lines: &mut List<Line>, rd: Register, count: u32, number: u16) -> R
 }
 
 /// The upper 20 bits of a word, rounded up where its lower 12 bits stand for a negative number.
-pub(crate) fn upper(word: u32) -> UpperImmediate
+pub fn upper(word: u32) -> UpperImmediate
     ensures { result ≡ upper_of word }
 {
     UpperImmediate::of(word.wrapping_add(2048) >> 12)
 }
 
 /// The lower 12 bits of a word, as a signed number.
-pub(crate) fn lower(word: u32) -> Immediate
+pub fn lower(word: u32) -> Immediate
     ensures { result ≡ lower_of word }
 {
     let bits = (word % 4096) as i16;
@@ -216,7 +216,7 @@ fn add_far(lines: &mut List<Line>, rd: Register, base: Register, offset: u64) ->
 }
 
 /// A register gets the address so many bytes behind that which another has.
-pub(crate) fn get_address(
+pub fn get_address(
     lines: &mut List<Line>,
     rd: Register,
     base: Register,
@@ -232,7 +232,7 @@ pub(crate) fn get_address(
 }
 
 /// A number of a type to a register.
-pub(crate) fn load(narrow: Narrow, rd: Register, rs1: Register, imm: Immediate) -> Ins
+pub fn load(narrow: Narrow, rd: Register, rs1: Register, imm: Immediate) -> Ins
     ensures { result ≡ loads narrow rd rs1 imm }
 {
     match narrow {
@@ -246,7 +246,7 @@ pub(crate) fn load(narrow: Narrow, rd: Register, rs1: Register, imm: Immediate) 
 }
 
 /// A number of a type from a register.
-pub(crate) fn store(narrow: Narrow, rs2: Register, rs1: Register, imm: Immediate) -> Ins
+pub fn store(narrow: Narrow, rs2: Register, rs1: Register, imm: Immediate) -> Ins
     ensures { result ≡ stores narrow rs2 rs1 imm }
 {
     match narrow {
@@ -258,7 +258,7 @@ pub(crate) fn store(narrow: Narrow, rs2: Register, rs1: Register, imm: Immediate
 }
 
 /// A number so many bytes behind an address to a register.
-pub(crate) fn load_behind(
+pub fn load_behind(
     lines: &mut List<Line>,
     narrow: Narrow,
     rd: Register,
@@ -276,7 +276,7 @@ pub(crate) fn load_behind(
 }
 
 /// A number from a register to so many bytes behind an address.
-pub(crate) fn store_behind(
+pub fn store_behind(
     lines: &mut List<Line>,
     narrow: Narrow,
     rs: Register,
@@ -296,7 +296,7 @@ pub(crate) fn store_behind(
 // ---- slots
 
 /// The home of a slot, or another register where there is none.
-pub(crate) fn register_of(vars: &[u32], slot: u32, other: Register) -> Register
+pub fn register_of(vars: &[u32], slot: u32, other: Register) -> Register
     ensures { result ≡ register_or_of (home_of vars.now slot) other }
 {
     match home(vars, slot) {
@@ -306,7 +306,7 @@ pub(crate) fn register_of(vars: &[u32], slot: u32, other: Register) -> Register
 }
 
 /// Another register gets the word of a slot that has no home.
-pub(crate) fn read_slot(
+pub fn read_slot(
     lines: &mut List<Line>,
     vars: &[u32],
     slot: u32,
@@ -321,7 +321,7 @@ pub(crate) fn read_slot(
 }
 
 /// A slot that has no home gets the word of another register.
-pub(crate) fn write_slot(
+pub fn write_slot(
     lines: &mut List<Line>,
     vars: &[u32],
     slot: u32,
@@ -336,12 +336,7 @@ pub(crate) fn write_slot(
 }
 
 /// A register gets the word of a slot.
-pub(crate) fn get_slot(
-    lines: &mut List<Line>,
-    vars: &[u32],
-    slot: u32,
-    rd: Register,
-) -> Result<(), Memory>
+pub fn get_slot(lines: &mut List<Line>, vars: &[u32], slot: u32, rd: Register) -> Result<(), Memory>
     ensures { OnOk result (lines.new ≡ lines.old ++ gets_slot (home_of vars.now slot) rd slot) }
 {
     match home(vars, slot) {
@@ -351,12 +346,7 @@ pub(crate) fn get_slot(
 }
 
 /// A slot gets the word of a register.
-pub(crate) fn put_slot(
-    lines: &mut List<Line>,
-    vars: &[u32],
-    slot: u32,
-    rs: Register,
-) -> Result<(), Memory>
+pub fn put_slot(lines: &mut List<Line>, vars: &[u32], slot: u32, rs: Register) -> Result<(), Memory>
     ensures { OnOk result (lines.new ≡ lines.old ++ puts_slot (home_of vars.now slot) rs slot) }
 {
     match home(vars, slot) {

@@ -1,0 +1,4 @@
+pub mod Frame
+pub mod Operands
+pub mod Computing
+pub mod Moving
