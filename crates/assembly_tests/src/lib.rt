@@ -16,6 +16,10 @@ mod names;
 #[cfg(test)]
 mod signatures;
 #[cfg(test)]
+mod texts;
+#[cfg(test)]
 mod types;
+#[cfg(test)]
+mod world;
 #[cfg(test)]
 mod writing;

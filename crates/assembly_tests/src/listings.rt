@@ -5,7 +5,7 @@ use md_tables::read_tables;
 use pe_image::open_image;
 use std::alloc::Global;
 
-static TEXT: &str = r#".entry 100663298
+pub(crate) static TEXT: &str = r#".entry 100663298
 .user x0003200000000000
 .row 00 0 "p.exe" xBD63D7E3BD8C504CAE413B664DDA9705 x x
 .row 01 23:1 "Object" "System"

@@ -68,7 +68,7 @@ static FIELDS: &[u8] = b"\
 
 /// The module in the bytes.
 fn read(alloc: Global, bytes: &[u8]) -> Option<Module> {
-    if bytes.len() > 0x10_0000 {
+    if bytes.len() > 0x100_0000 {
         return None;
     }
     let image = open_image(bytes).ok()?;
@@ -218,6 +218,52 @@ fn writes_wide_indexes(rt: HostRuntime) {
         && let Ok(again) = write_image(rt.alloc(), &module)
     {
         assert_eq!(rt; file.get(0x200 + 72 + 108 + 6), Some(&7));
+        assert!(rt; again.as_slice() == file.as_slice());
+    } else {
+        assert!(rt; false);
+    }
+}
+
+/// A row of the table of parameters, whose name is a number.
+fn numbered_row(alloc: Global, number: u32) -> Result<TableRow, Memory> {
+    let name = format!(in alloc; "{number}").map_err(|_| Memory)?;
+    let name = Text::new(alloc, name.as_bytes()).map_err(|_| Memory)?;
+    let cells = vec![in alloc; Cell::Number(0), Cell::Number(1), Cell::Name(name)]?;
+    row_of(alloc, cells)
+}
+
+/// The rows of a table: 100,000 parameters.
+fn many_rows(alloc: Global, table: u8) -> Result<List<TableRow>, Memory> {
+    let mut rows = List::new(alloc);
+    if table == 0x08 {
+        for number in 0..100_000 {
+            rows.push(numbered_row(alloc, number)?).map_err(|_| Memory)?;
+        }
+    }
+    Ok(rows)
+}
+
+/// The file of a module of 100,000 rows, each with a name of its own.
+fn many_file(alloc: Global) -> Result<Option<Bytes>, Memory> {
+    let mut tables = List::new(alloc);
+    for number in NUMBERS {
+        let rows = many_rows(alloc, number)?;
+        tables.push(Table { number, rows }).map_err(|_| Memory)?;
+    }
+    if !are_tables(tables.as_slice()) {
+        return Ok(None);
+    }
+    let module = Module::new(0, Bytes::new(alloc), tables);
+    Ok(write_image(alloc, &module).ok())
+}
+
+/// The file reads back and is written as it was.
+#[test]
+fn writes_many_rows(rt: HostRuntime) {
+    if let Ok(Some(file)) = many_file(rt.alloc())
+        && let Some(module) = read(rt.alloc(), file.as_slice())
+        && let Ok(again) = write_image(rt.alloc(), &module)
+    {
         assert!(rt; again.as_slice() == file.as_slice());
     } else {
         assert!(rt; false);

@@ -13,16 +13,24 @@ use std::alloc::Global;
 use std::process::Abort;
 use std::test::Fail;
 
-/// Where the machine's one segment begins, and in it the root, the lowest address of a frame and the end of the stack.
+/// Where the machine's one segment begins, and where in it the routines, the root and the heap do.
 const AT: u64 = 0x1_0000;
 
-const ROOT: u64 = AT + 0x8000;
+const ROUTINES_AT: u64 = 24;
 
-const LOWEST: u64 = AT + 0x9000;
+const ROOT: u64 = 0x8000;
 
-const STACK_END: u64 = AT + 0xa000;
+const HEAP: u64 = 0x8800;
 
 const SIZE: usize = 0xa100;
+
+/// How many bytes of heap and, mostly, of stack a program may use.
+const HEAP_BOUND: u64 = 0x800;
+
+const STACK_BOUND: u64 = 0x1000;
+
+/// What the first body gets as its argument.
+const ARGUMENT: u64 = 263;
 
 static ROUTINES: [Routine; 7] = [
     Routine::Start,
@@ -108,6 +116,7 @@ fn call(alloc: Global, ops: &mut List<LirOp>, item: u32, from: u32, to: u32) -> 
             callee: Callee::Body(item),
             dictionary: None,
             arguments,
+            cleared: Block { slot: 0, words: 0 },
             result: Block { slot: to, words: 1 },
         },
     )
@@ -297,6 +306,74 @@ fn moves_bytes(alloc: Global) -> Result<LirBody, Memory> {
     body(alloc, &[8, 9], ops)
 }
 
+/// Gives 7 and 5 to the next body, has both cleared, and returns its result with what it has then in their slots.
+fn clears_what_it_gave(alloc: Global) -> Result<LirBody, Memory> {
+    let mut ops = List::new(alloc);
+    constant(&mut ops, 8, 7)?;
+    constant(&mut ops, 9, 5)?;
+    let arguments = List::from_slice(
+        alloc,
+        &[Argument {
+            from: 8,
+            to: 8,
+            words: 2,
+        }],
+    )?;
+    let call = LirOp::Call {
+        callee: Callee::Body(1),
+        dictionary: None,
+        arguments,
+        cleared: Block { slot: 8, words: 2 },
+        result: Block { slot: 10, words: 1 },
+    };
+    add(&mut ops, call)?;
+    binary(&mut ops, BinaryOperation::Add, 10, 10, 8)?;
+    binary(&mut ops, BinaryOperation::Add, 10, 10, 9)?;
+    give_back(&mut ops, 10)?;
+    body(alloc, &[], ops)
+}
+
+/// Returns the difference of its arguments.
+fn subtracts(alloc: Global) -> Result<LirBody, Memory> {
+    let mut ops = List::new(alloc);
+    binary(&mut ops, BinaryOperation::Subtract, 8, 8, 9)?;
+    give_back(&mut ops, 8)?;
+    body(alloc, &[8, 9], ops)
+}
+
+/// Moves the second to fourth int32 of slots 8 and 9, which are 5, 7 and 9, to the first to third, and returns the sum
+/// of these.
+fn moves_down(alloc: Global) -> Result<LirBody, Memory> {
+    let mut ops = List::new(alloc);
+    constant(&mut ops, 8, 0x5_0000_0001)?;
+    constant(&mut ops, 9, 0x9_0000_0007)?;
+    let copy = LirOp::Copy {
+        to: Place::Slot { slot: 8, offset: 0 },
+        from: Place::Slot { slot: 8, offset: 4 },
+        bytes: 12,
+    };
+    add(&mut ops, copy)?;
+    constant(&mut ops, 11, 0)?;
+    for offset in [0, 4, 8] {
+        let load = LirOp::Load {
+            to: 10,
+            from: Place::Slot { slot: 8, offset },
+            narrow: Narrow::I4,
+        };
+        add(&mut ops, load)?;
+        binary(&mut ops, BinaryOperation::Add, 11, 11, 10)?;
+    }
+    give_back(&mut ops, 11)?;
+    body(alloc, &[], ops)
+}
+
+/// Returns its argument.
+fn returns_its_argument(alloc: Global) -> Result<LirBody, Memory> {
+    let mut ops = List::new(alloc);
+    give_back(&mut ops, 8)?;
+    body(alloc, &[8], ops)
+}
+
 // ---- linking
 
 /// Memory that is filled from its begin on, the begins of routines and of bodies, and what takes an address.
@@ -308,14 +385,17 @@ struct Image {
     fixes: List<(usize, Fix)>,
 }
 
-/// Memory with the address of the root and the routines.
-fn with_routines(alloc: Global) -> Result<Image, Fail> {
+/// Memory with the address of the root, the bounds and the routines.
+fn with_routines(alloc: Global, stack: u64) -> Result<Image, Fail> {
     let mut image = Image {
-        bytes: List::from_slice(alloc, &ROOT.to_le_bytes())?,
+        bytes: List::new(alloc),
         routines: List::new(alloc),
         bodies: List::new(alloc),
         fixes: List::new(alloc),
     };
+    for number in [AT + ROOT, HEAP_BOUND, stack] {
+        image.bytes.extend_from_slice(&number.to_le_bytes())?;
+    }
     for which in &ROUTINES {
         let begin = AT.saturating_add(image.bytes.len() as u64);
         image.routines.extend_from_slice(&[begin])?;
@@ -387,8 +467,8 @@ fn put(bytes: &mut [u8], place: usize, address: u64) {
 }
 
 /// The memory of a program.
-fn memory(alloc: Global, bodies: &[LirBody]) -> Result<List<u8>, Fail> {
-    let mut image = with_routines(alloc)?;
+fn memory(alloc: Global, bodies: &[LirBody], stack: u64) -> Result<List<u8>, Fail> {
+    let mut image = with_routines(alloc, stack)?;
     for body in bodies {
         add_body(alloc, &mut image, body)?;
     }
@@ -408,8 +488,8 @@ fn memory(alloc: Global, bodies: &[LirBody]) -> Result<List<u8>, Fail> {
         put(bytes.as_mut_slice(), *place, address);
     }
     let mut memory = List::from_slice(alloc, bytes.as_slice())?;
-    memory.resize(0x8000, 0)?;
-    for number in [first, STACK_END, LOWEST, STACK_END] {
+    memory.resize(ROOT as usize, 0)?;
+    for number in [first, ARGUMENT, HEAP - ROOT] {
         memory.extend_from_slice(&number.to_le_bytes())?;
     }
     memory.resize(SIZE, 0)?;
@@ -417,29 +497,30 @@ fn memory(alloc: Global, bodies: &[LirBody]) -> Result<List<u8>, Fail> {
 }
 
 /// The machine that runs a program.
-fn machine(alloc: Global, bodies: &[LirBody]) -> Result<Machine, Fail> {
+fn machine(alloc: Global, bodies: &[LirBody], stack: u64) -> Result<Machine, Fail> {
     let mut segments = List::new(alloc);
     let segment = Segment {
         at: AT,
-        bytes: memory(alloc, bodies)?,
+        bytes: memory(alloc, bodies, stack)?,
         read: true,
         write: true,
         execute: true,
     };
     segments.push(segment).map_err(|_| Memory)?;
-    Ok(Machine::new(alloc, segments, AT + 8)?)
+    Ok(Machine::new(alloc, segments, AT + ROUTINES_AT)?)
 }
 
-/// Whether a program ends with this status, this output and this error text.
+/// Whether a program with so many bytes of stack ends with this status, this output and this error text.
 fn comes_to(
     alloc: Global,
     bodies: List<LirBody>,
+    stack: u64,
     input: &[u8],
     status: u8,
     output: &[u8],
     error: &[u8],
 ) -> Result<bool, Fail> {
-    let mut m = machine(alloc, bodies.as_slice())?;
+    let mut m = machine(alloc, bodies.as_slice(), stack)?;
     let mut input = MemSource::new(alloc, input, &[])?;
     let mut out = MemSink::new(alloc, &[])?;
     let mut err = MemSink::new(alloc, &[])?;
@@ -465,31 +546,45 @@ fn two(alloc: Global, first: LirBody, second: LirBody) -> Result<List<LirBody>, 
 
 fn echoes_all(alloc: Global) -> Result<bool, Fail> {
     let bodies = one(alloc, echoes(alloc)?)?;
-    comes_to(alloc, bodies, b"h\xff\0i", 4, b"h\xff\0i", b"")
+    comes_to(alloc, bodies, STACK_BOUND, b"h\xff\0i", 4, b"h\xff\0i", b"")
 }
 
 fn counts_calls(alloc: Global) -> Result<bool, Fail> {
     let first = calls_with(alloc, 11)?;
     let bodies = two(alloc, first, fibonacci(alloc)?)?;
-    comes_to(alloc, bodies, b"", 89, b"", b"")
+    comes_to(alloc, bodies, STACK_BOUND, b"", 89, b"", b"")
 }
 
 /// Whether the sum of variables is this behind a call of a body with variables.
 fn sums(alloc: Global, outer: &[u32], inner: &[u32], status: u8) -> Result<bool, Fail> {
     let first = keeps_variables(alloc, outer, true)?;
     let bodies = two(alloc, first, keeps_variables(alloc, inner, false)?)?;
-    comes_to(alloc, bodies, b"", status, b"", b"")
+    comes_to(alloc, bodies, STACK_BOUND, b"", status, b"", b"")
 }
 
-fn reaches_the_bound(alloc: Global) -> Result<bool, Fail> {
+fn reaches_the_bound(alloc: Global, stack: u64) -> Result<bool, Fail> {
     let bodies = one(alloc, never_ends(alloc)?)?;
-    comes_to(alloc, bodies, b"", 134, b"", b"stack bound reached\n")
+    comes_to(
+        alloc,
+        bodies,
+        stack,
+        b"",
+        134,
+        b"",
+        b"stack bound reached\n",
+    )
+}
+
+fn clears(alloc: Global) -> Result<bool, Fail> {
+    let first = clears_what_it_gave(alloc)?;
+    let bodies = two(alloc, first, subtracts(alloc)?)?;
+    comes_to(alloc, bodies, STACK_BOUND, b"", 2, b"", b"")
 }
 
 /// Whether a body ends with this status, and writes nothing.
 fn ends(alloc: Global, body: LirBody, status: u8) -> Result<bool, Fail> {
     let bodies = one(alloc, body)?;
-    comes_to(alloc, bodies, b"", status, b"", b"")
+    comes_to(alloc, bodies, STACK_BOUND, b"", status, b"", b"")
 }
 
 static EIGHT: [u32; 8] = [8, 9, 10, 11, 12, 13, 14, 15];
@@ -517,7 +612,8 @@ fn eight_and_nine_variables(rt: HostRuntime) -> Result<(), Fail> {
 
 #[test]
 fn bound_of_the_stack(rt: HostRuntime) -> Result<(), Fail> {
-    assert!(rt; reaches_the_bound(rt.alloc())?);
+    assert!(rt; reaches_the_bound(rt.alloc(), STACK_BOUND)?);
+    assert!(rt; reaches_the_bound(rt.alloc(), 304)?);
     Ok(())
 }
 
@@ -539,5 +635,25 @@ fn refusals(rt: HostRuntime) -> Result<(), Fail> {
 fn bytes_moved(rt: HostRuntime) -> Result<(), Fail> {
     let body = moves_bytes(rt.alloc())?;
     assert!(rt; ends(rt.alloc(), body, 254)?);
+    Ok(())
+}
+
+#[test]
+fn bytes_moved_down(rt: HostRuntime) -> Result<(), Fail> {
+    let body = moves_down(rt.alloc())?;
+    assert!(rt; ends(rt.alloc(), body, 21)?);
+    Ok(())
+}
+
+#[test]
+fn slots_cleared_by_a_call(rt: HostRuntime) -> Result<(), Fail> {
+    assert!(rt; clears(rt.alloc())?);
+    Ok(())
+}
+
+#[test]
+fn argument_of_the_first_body(rt: HostRuntime) -> Result<(), Fail> {
+    let body = returns_its_argument(rt.alloc())?;
+    assert!(rt; ends(rt.alloc(), body, 7)?);
     Ok(())
 }
