@@ -1,4 +1,4 @@
--- Calls and returns, and initializers: ECMA-335 I.12.4.1, III.2.1, III.3.19, III.3.56, III.4.2, III.4.21, II.10.5.3.
+-- Calls and returns, and initializers: ECMA-335 I.12.4.1, III.2.1, III.3.19, III.3.57, III.4.2, III.4.21, II.10.5.3.
 use Rattle.std.specs.Prelude.{ℕ, ◌-◌, ◌==◌, ◌&&◌, ◌||◌, Bool, true, false, not, if◌then◌else◌, List, [], ◌∷◌}
 use Rattle.std.specs.Prelude.{is_some, find, length, map, zip, Option, Some, None}
 use Rattle.std.specs.Option.{option_map_or, option_and_then}

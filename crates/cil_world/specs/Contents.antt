@@ -1,7 +1,7 @@
 -- What places of types begin with, how many bytes they take, and what storing does to a value: ECMA-335 I.12.1.2,
 -- I.12.1.6, II.10.7, II.22.8.
-use Rattle.std.specs.Prelude.{ℕ, zero, suc, ◌+◌, ◌==◌, pos, if◌then◌else◌, List, [], ◌∷◌, ◌++◌, map}
-use Rattle.std.specs.Prelude.{find, length, filter_map, slice_get, Option, Some, None, Result, Ok, Err}
+use Rattle.std.specs.Prelude.{ℕ, zero, suc, ◌+◌, ◌*◌, ◌^◌, ◌==◌, pos, if◌then◌else◌, List, [], ◌∷◌, ◌++◌, map}
+use Rattle.std.specs.Prelude.{find, length, sum_by, filter_map, slice_get, Option, Some, None, Result, Ok, Err}
 use Rattle.std.specs.Option.{option_map_or}
 use Rattle.num_core.specs.declared.kind.Narrow.{Narrow}
 use Rattle.num_core.specs.declared.kind.Narrow.TheVariants.{I1, U1, I2, U2}
@@ -60,9 +60,14 @@ joined (part ∷ rest) = part ++ joined rest
 abbrev pub object_fields : World → Ty → List Ty
 object_fields world ty = joined (field_parts world ty)
 
--- a value type within another nests no deeper than there are types and arguments
+-- how deep the types of a definition's instance fields are, all in all
+abbrev pub field_depths : World → TypeId → ℕ
+field_depths world id = sum_by depth_of (filter_map (field_sig world id) (instance_fields world id))
+
+-- A bound on how deep value types nest within one. None lies within itself, so the definitions have an order, and a
+-- layer of each has no more layers of those below it than its fields' types have.
 abbrev pub deepest : World → Ty → ℕ
-deepest world ty = length (all_ids world) + depth_of ty
+deepest world ty = (1 + depth_of ty) * (1 + sum_by (field_depths world) (all_ids world)) ^ length (all_ids world)
 
 -- ---- zeros
 

@@ -2,11 +2,14 @@
 -- inherited methods come last, so an explicit implementation of a base stays in force.
 use Rattle.std.specs.Prelude.{ℕ, zero, suc, ◌==◌, ◌&&◌, ◌||◌, Bool, false, if◌then◌else◌}
 use Rattle.std.specs.Prelude.{List, [], ◌∷◌, ◌++◌, map, filter, find, filter_map, length, slice_get, Option, Some, None}
-use Rattle.std.specs.Prelude.{Result, Ok, Err}
+use Rattle.std.specs.Prelude.{Result, Ok, Err, unwrap_or}
 use Rattle.std.specs.List.{list_any}
 use Rattle.std.specs.Option.{option_map, option_map_or, option_and_then}
 use Rattle.std.specs.Str.{bytes_eq}
+use Rattle.md_sigs.specs.Signatures.{signature}
+use Rattle.md_sigs.specs.declared.fault.SigFault.{SigFault}
 use Rattle.md_sigs.specs.declared.sig.MethodSig.{MethodSig}
+use Rattle.md_sigs.specs.declared.sig.Sig.{Sig}
 use Rattle.md_tables.specs.declared.module.TableRow.{TableRow}
 use Rattle.ty_terms.specs.declared.names.MethodId.{MethodId}
 use Rattle.ty_terms.specs.declared.names.MethodName.{MethodName}
@@ -14,18 +17,19 @@ use Rattle.ty_terms.specs.declared.names.TypeId.{TypeId}
 use Rattle.ty_terms.specs.declared.ty.Ty.{Ty}
 use Rattle.ty_terms.specs.Subst.{substituted}
 use Rattle.ty_names.specs.declared.cells.RowOf.{RowOf}
-use Rattle.ty_names.specs.Modules.{World, tables_at, rows, index_of, coded_of}
+use Rattle.ty_names.specs.Modules.{World, tables_at, rows, cell_at, blob_of, index_of, coded_of}
 use Rattle.ty_names.specs.Definitions.{methods_of, method_name, is_virtual, has_new_slot, is_public_method}
-use Rattle.ty_names.specs.Definitions.{owner_of_method}
+use Rattle.ty_names.specs.Definitions.{generic_count, owner_of_method}
 use Rattle.ty_load.specs.declared.fault.ResolveFault.{ResolveFault}
 use Rattle.ty_load.specs.declared.item.Item.{Item}
 use Rattle.ty_load.specs.declared.item.Item.TheVariants.{OfMethod}
-use Rattle.ty_load.specs.Primitives.{definition_of}
+use Rattle.ty_load.specs.Primitives.{definition_of, type_of}
 use Rattle.ty_load.specs.Bases.{is_interface_id, closed_if}
 use Rattle.ty_load.specs.Cycles.{all_ids}
+use Rattle.ty_load.specs.Finding.{method_variables}
 use Rattle.ty_load.specs.Members.{method_sig, same_sig, same_type}
 use Rattle.ty_load.specs.Tokens.{member_by, method_by, method_named}
-use Rattle.ty_load.specs.Walks.{arguments, base_type, interface_types, index_name}
+use Rattle.ty_load.specs.Walks.{own_variables, arguments, base_type, interface_types, index_name}
 use Rattle.cil_world.specs.Contents.{base_if, classes_of}
 
 -- ---- methods of a type
@@ -37,12 +41,9 @@ pub record Declared : Type 0 where
   pub name : List ℕ
   pub sig : MethodSig
 
-abbrev pub sig_on : Ty → MethodSig → MethodSig
-sig_on owner sig =
-    record sig {
-      params = map (substituted (arguments owner) []) sig.params;
-      result = substituted (arguments owner) [] sig.result;
-    }
+abbrev pub sig_with : List Ty → MethodSig → MethodSig
+sig_with args sig =
+    record sig { params = map (substituted args []) sig.params; result = substituted args [] sig.result }
 
 abbrev pub declared_with : World → Ty → TypeId → ℕ → MethodSig → Declared
 declared_with world owner id row sig =
@@ -50,7 +51,7 @@ declared_with world owner id row sig =
       owner = owner;
       id = record { «module» = id.module; row = row };
       name = method_name (tables_at world id.module) row;
-      sig = sig_on owner sig;
+      sig = sig_with (arguments owner) sig;
     }
 
 abbrev pub declared_in : World → Ty → TypeId → ℕ → Option Declared
@@ -97,6 +98,18 @@ upward world ty = reversed (classes_of world ty)
 abbrev pub bases : World → Ty → List Ty
 bases world ty = option_map_or (upward world) (base_if (base_type world ty)) []
 
+-- A method as the definition of its type declares it, in the definition's own variables: what overrides what is a fact
+-- of definitions, the same for all their instances (II.9.9).
+abbrev pub as_defined : World → Declared → Declared
+as_defined world method =
+    option_map_or (λ id. unwrap_or
+    (declared_in world (type_of world id (own_variables world id)) id method.id.row) method)
+    (definition_of world method.owner) method
+
+abbrev pub on_arguments : List Ty → Declared → Declared
+on_arguments args method =
+    record method { owner = substituted args [] method.owner; sig = sig_with args method.sig }
+
 -- The method that began the slot of a method: itself, or that of the nearest method in a proper base that it overrides.
 abbrev pub slot_within : ℕ → World → Declared → Declared
 slot_within zero world method = method
@@ -105,7 +118,8 @@ slot_within (suc left) world method =
     else option_map_or (slot_within left world) (nearest world method (bases world method.owner)) method
 
 abbrev pub slot_of : World → Declared → Declared
-slot_of world method = slot_within (length (all_ids world)) world method
+slot_of world method =
+    on_arguments (arguments method.owner) (slot_within (length (all_ids world)) world (as_defined world method))
 
 -- ---- rows of MethodImpl
 
@@ -121,15 +135,25 @@ abbrev pub is_own_row : Option ℕ → ℕ → Bool
 is_own_row None row = false
 is_own_row (Some owner) row = owner == row
 
--- The method that a row of MethodImpl of a class names; a row of the class's own is of the class with its arguments.
+-- the own variables of a method of this signature
+abbrev pub variables_of : Result Sig SigFault → List Ty
+variables_of (Ok (Sig.Method sig)) = method_variables sig.generic
+variables_of _ = []
+
+-- The method that a row of MethodImpl of a class names; a row of the class's own is of the class with its arguments. A
+-- generic method gets its own variables.
 abbrev pub named_in : World → Ty → TypeId → RowOf → Option MethodName
 named_in world ty id index =
     let name = index_name world id.module index in
+    let tables = tables_at world id.module in
     if index.table == 0x06
-    then (if is_own_row (owner_of_method (tables_at world id.module) index.row) id.row
+    then (if is_own_row (owner_of_method tables index.row) id.row
     then Some (method_named ty id.module index.row [])
-    else if_named (method_by world id.module name index.row []))
-    else if_method (member_by world id.module name (arguments ty) [] index.row [])
+    else if_named
+    (method_by world id.module name index.row (method_variables (generic_count tables 0x06 index.row))))
+    else if_method
+    (member_by world id.module name (arguments ty) [] index.row
+    (variables_of (signature id.module (blob_of (cell_at tables 0x0A index.row 2)))))
 
 abbrev pub declared_of : World → MethodName → Option Declared
 declared_of world name =

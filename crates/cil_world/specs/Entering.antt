@@ -144,9 +144,11 @@ known_types (Some ty ∷ rest) = ty ∷ known_types rest
 abbrev pub static_bytes : World → Ty → ℕ
 static_bytes world ty = (object (map (field_of world) (known_types (static_types world ty)) ∷ [])).size
 
+-- a type whose statics may be laid out: its bases and interfaces are known, and so are the types of its statics
 abbrev pub may_lay_out_statics : World → Ty → Bool
 may_lay_out_statics world ty =
-    list_all (is_known_static world) (static_types world ty) && nat_le (static_bytes world ty) most_bytes
+    list_all (class_resolves world) (classes_of world ty) && list_all (is_known_static world) (static_types world ty)
+    && nat_le (static_bytes world ty) most_bytes
 
 -- ---- frames
 

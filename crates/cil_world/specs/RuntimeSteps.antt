@@ -1,7 +1,7 @@
 -- The methods of the core that have no CIL, each one step without a frame.
 use Rattle.std.specs.Prelude.{ℕ, ◌/◌, ◌==◌, ◌&&◌, nat_le, ℤ, pos, Bool, true, false}
 use Rattle.std.specs.Prelude.{if◌then◌else◌, List, [], ◌∷◌, find, length, replicate, slice_get, slice_set}
-use Rattle.std.specs.Prelude.{drop, codes, Option, Some, None, zero, suc, ◌*◌}
+use Rattle.std.specs.Prelude.{drop, codes, Option, Some, None, unwrap_or, zero, suc, ◌*◌}
 use Rattle.std.specs.Option.{option_map, option_map_or, option_and_then}
 use Rattle.num_core.specs.declared.bounds.Bounds.{Bounds}
 use Rattle.num_core.specs.Bits.{low_bits}
@@ -86,7 +86,7 @@ abbrev pub unit_set : CilState → Reference → Option ℕ → ℤ → Did
 unit_set state (MadeAs n) (Some k) unit = Gives (change_object n (set_unit k (low_bits 16 unit)) state) []
 unit_set state _ _ unit = Cannot
 
--- ---- InitializeArray: the first of the field's bytes into the whole vector
+-- ---- InitializeArray: the first of the field's bytes into the whole vector; a field may have none
 
 -- values of a type from bytes, one behind another
 abbrev pub values_from : World → Ty → ℕ → ℕ → List ℕ → List Value
@@ -121,7 +121,8 @@ abbrev pub initialize : World → CilState → Reference → Values → Did
 initialize world state Null handle = Raises state NullReference
 initialize world state (MadeAs n) handle =
     option_map_or (λ made. fill_with world state n made (element_type world state (MadeAs n))
-    (option_and_then (field_bytes world) (handle_field handle))) (slice_get state.objects n) Cannot
+    (option_map (λ name. unwrap_or (field_bytes world name) []) (handle_field handle))) (slice_get state.objects n)
+    Cannot
 initialize world state (Lying object) handle = RaisesNamed state (codes "ArgumentException")
 
 -- ---- the steps

@@ -1,4 +1,4 @@
--- Searches, unwinding and handlers: ECMA-335 I.12.4.2.5 to I.12.4.2.8, III.3.34, III.3.46, III.4.24. Where no catch
+-- Searches, unwinding and handlers: ECMA-335 I.12.4.2.5 to I.12.4.2.8, III.3.35, III.3.46, III.4.24. Where no catch
 -- is found no handler runs.
 use Rattle.std.specs.Prelude.{ℕ, ◌+◌, ◌-◌, ◌==◌, ◌&&◌, nat_lt, nat_le, Bool, true, false, not, List, [], ◌∷◌}
 use Rattle.std.specs.Prelude.{codes, drop, filter, find, length, map, slice_get, if◌then◌else◌, Option}

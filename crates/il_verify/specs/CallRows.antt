@@ -1,4 +1,4 @@
--- Calls and returns: ECMA-335 III.2.1, III.3.19, III.3.56, III.4.2, III.4.21.
+-- Calls and returns: ECMA-335 III.2.1, III.3.19, III.3.57, III.4.2, III.4.21.
 use Rattle.std.specs.Prelude.{Bool, true, false, ◌&&◌, not, if◌then◌else◌, List, [], ◌∷◌, map, Option, Some, None}
 use Rattle.std.specs.Option.{option_and_then}
 use Rattle.ty_terms.specs.declared.ty.Ty.{Ty}

@@ -23,7 +23,7 @@ use Rattle.il_verify.specs.Actions.{CastClass, IsInstance, CallAction, Call, Cal
 use Rattle.il_verify.specs.Actions.{AtPlaces, OnNumbers, OnBranches, ByPointers, OnFields, OnVectors, ByCasts, ByCalls}
 use Rattle.il_verify.specs.Actions.{OnExceptions, Outside, Length, ReadElementAs, WriteElementAs, ReadAs, WriteAs}
 use Rattle.il_verify.specs.Flow.{action_at, is_among, reached_offsets}
-use Rattle.il_verify.specs.Scope.{Scope, item, scope_of, type_token}
+use Rattle.il_verify.specs.Scope.{Scope, item, scope_of}
 
 -- ---- bodies
 
@@ -120,12 +120,13 @@ is_inside_instruction scope body i =
     is_known (action_at i) && resolves scope (action_at i) && stays_inside body i
 
 abbrev pub is_inside_kind : Scope → Clause → ClauseKind → Bool
-is_inside_kind scope clause Catch = is_there (type_token scope clause.class)
+is_inside_kind scope clause Catch = is_there (item scope clause.class)
 is_inside_kind scope clause Filter = false
 is_inside_kind scope clause Finally = true
 is_inside_kind scope clause Fault = true
 
--- a clause by which control comes to its handler: no filter, and the class of a catch is there
+-- A clause by which control comes to its handler: no filter, and what the class of a catch names is there. Where that
+-- is no type, the handler's first instruction fails.
 abbrev pub is_inside_clause : Scope → List ℕ → Clause → Bool
 is_inside_clause scope offsets clause =
     not (list_any (λ offset. tries offset clause) offsets) || is_inside_kind scope clause clause.kind

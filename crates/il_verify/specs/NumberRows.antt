@@ -1,4 +1,4 @@
--- Arithmetic and conversion: ECMA-335 III.1.5, III.3.1 to III.3.7, III.3.27 to III.3.32, III.3.47 to III.3.68.
+-- Arithmetic and conversion: ECMA-335 III.1.5, III.3.1 to III.3.3, III.3.27 to III.3.32, III.3.48 to III.3.67.
 use Rattle.std.specs.Prelude.{Bool, ◌&&◌, if◌then◌else◌, [], ◌∷◌}
 use Rattle.il_verify.specs.Actions.{NumberAction, Combine, Shift, Negate, Complement, Convert, ConvertChecked}
 use Rattle.il_verify.specs.Kinds.{slot_of_integer}

@@ -1,5 +1,5 @@
--- Constants and places: ECMA-335 III.3.35, III.3.38 to III.3.46, III.3.62, III.3.63 and others, III.4.16, III.4.17,
--- III.4.25.
+-- Constants and places: ECMA-335 III.3.33, III.3.38 to III.3.40, III.3.43 to III.3.45, III.3.54, III.3.61, III.3.63,
+-- III.4.16, III.4.17, III.4.25.
 use Rattle.std.specs.Prelude.{ℕ, true, List, [], ◌∷◌, ◌++◌, codes, slice_get, Option}
 use Rattle.std.specs.Option.{option_map_or}
 use Rattle.ty_terms.specs.declared.ty.Primitive.TheVariants.{String}

@@ -58,7 +58,8 @@ raised_by_field (ReadStatic token) = []
 raised_by_field (AddressOfStatic token) = []
 raised_by_field (WriteStatic token) = []
 
--- an element whose type doesn't fit is met among references alone, and not behind `readonly.`
+-- An element whose type doesn't fit is met among references alone, and not behind `readonly.`, which the opcode doesn't
+-- tell.
 abbrev pub raised_by_vector : VectorAction → List Raised
 raised_by_vector (NewVector token) = Overflow ∷ []
 raised_by_vector Length = NullReference ∷ []
@@ -68,7 +69,7 @@ raised_by_vector (ReadElement token) = NullReference ∷ IndexOutOfRange ∷ []
 raised_by_vector (WriteElement token) = NullReference ∷ IndexOutOfRange ∷ ArrayTypeMismatch ∷ []
 raised_by_vector (AddressOfElement token) = NullReference ∷ IndexOutOfRange ∷ ArrayTypeMismatch ∷ []
 
--- `unbox.any` of a reference type raises InvalidCast alone
+-- `unbox.any` of a reference type raises InvalidCast alone, which the opcode doesn't tell
 abbrev pub raised_by_cast : CastAction → List Raised
 raised_by_cast (Box token) = []
 raised_by_cast (Unbox token) = NullReference ∷ InvalidCast ∷ []
@@ -88,7 +89,7 @@ raised_by_exception Rethrow = []
 raised_by_exception EndFinally = []
 raised_by_exception (Leave target) = []
 
--- what an operation can raise, in the order in which it is tested
+-- what an operation may raise, as far as its opcode tells, in the order in which it is tested
 abbrev pub can_raise : Action → List Raised
 can_raise (AtPlaces action) = []
 can_raise (OnNumbers action) = raised_by_number action

@@ -1,4 +1,4 @@
--- The ranges of clauses, and the ways between them: ECMA-335 I.12.4.2.8, III.1.7.4, III.3.46, III.3.34.
+-- The ranges of clauses, and the ways between them: ECMA-335 I.12.4.2.8, III.1.7.3, III.3.35, III.3.46.
 use Rattle.std.specs.Prelude.{ℕ, ◌-◌, ◌==◌, ◌&&◌, ◌||◌, nat_le, nat_lt, Bool, true, false, not, if◌then◌else◌, List}
 use Rattle.std.specs.Prelude.{[], ◌∷◌, filter, Option, Some, None}
 use Rattle.std.specs.List.{list_any, list_all, flat_map}

@@ -15,7 +15,7 @@ use Rattle.il_verify.specs.Row.{Row, is_object, taking}
 use Rattle.il_verify.specs.Scope.{Scope}
 use Rattle.il_verify.specs.VectorRows.{vector_row}
 
--- exceptions: `throw`, `rethrow`, `endfinally` and `leave` (III.3.34, III.3.46, III.4.24, III.4.31)
+-- exceptions: `throw`, `rethrow`, `endfinally` and `leave` (III.3.35, III.3.46, III.4.24, III.4.31)
 abbrev pub exception_row : ExceptionAction → Row
 exception_row Throw = taking (is_object ∷ []) []
 exception_row Rethrow = taking [] []

@@ -49,11 +49,11 @@ abbrev pub elements_of : List Ty → List Ty
 elements_of [] = []
 elements_of (ty ∷ rest) = with_element ty (elements_of rest)
 
--- a reference that an element of such vectors is: to one of the types of their elements
+-- A reference that an element of such vectors is: to one of the types of their elements. It doesn't depend on the
+-- index.
 abbrev pub element_reference : World → Slot → Slot → Slot
 element_reference world (Refs types) index =
-    if has_elements world (content_of_access Reference) (Refs types) && is_index index then Refs (elements_of types)
-    else Conflict
+    if has_elements world (content_of_access Reference) (Refs types) then Refs (elements_of types) else Conflict
 element_reference world _ index = Conflict
 
 abbrev pub read_element_row : World → Access → Row
