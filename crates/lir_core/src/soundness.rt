@@ -4,6 +4,7 @@ ghost use Rattle.lir_core.specs.Pieces.{bytes_of_type, words_from as words_of, w
 ghost use Rattle.lir_core.specs.Frame.{most_passed};
 ghost use Rattle.lir_core.specs.Pieces.{touched, addressed, labels, of_argument, passed, word_if, of_callee};
 ghost use Rattle.lir_core.specs.Check.{lies_in_frame, is_whole_or_apart, fits, are_distinct, can_be_addressed};
+ghost use Rattle.lir_core.specs.Check.{has_short_numbers, has_short_offset, is_short as is_short_number};
 ghost use Rattle.lir_core.specs.Check.{is_sound, is_sound_op, ops_are_sound, marks_are_places, vars_are_slots};
 ghost use Rattle.lir_core.specs.declared.op.LirOp.TheVariants as LirOp;
 
@@ -18,8 +19,9 @@ pub(crate) struct Piece {
     bytes: u64,
 }
 
-/// Whether labels, slots and the places of `marks` are in range, routines get no more words than they may take, and
-/// each slot of `vars` stands there once and is read and written as one whole word only.
+/// Whether labels, slots and the places of `marks` are in range, routines get no more words than they may take, offsets
+/// and counts of bytes have 32 bits, and each slot of `vars` stands there once and is read and written as one whole word
+/// only.
 pub fn check(body: &LirBody) -> bool
     ensures sound { result ≡ is_sound body.now }
 {
@@ -143,6 +145,7 @@ impl LirBody {
             && self.addressed_can_be(op)
             && self.labels_are_places(op)
             && passes_few(op)
+            && has_short_numbers(op)
     }
 
     /// Whether the parts of the frame that the operation reads and writes fit.
@@ -362,6 +365,61 @@ impl Place {
             },
             Place::Flat { base, .. } => word(base),
         }
+    }
+
+    /// Whether the place lies behind an address by a number of 32 bits, if it lies behind one.
+    fn has_short_offset(self) -> bool
+        ensures { result ≡ has_short_offset self }
+    {
+        match self {
+            Place::Slot { .. } => true,
+            Place::Flat { offset, .. } => is_short(offset),
+        }
+    }
+}
+
+/// Whether a number has 32 bits.
+fn is_short(number: u32) -> bool
+    ensures { result ≡ is_short_number number }
+{
+    u64::from(number) < 1 << 32
+}
+
+/// Whether the numbers that stand in the operation beside its slots have 32 bits.
+fn has_short_numbers(op: &LirOp) -> bool
+    ensures { result ≡ has_short_numbers op.now }
+{
+    match op {
+        LirOp::Load { from, .. } => from.has_short_offset(),
+        LirOp::Store { to, .. } => to.has_short_offset(),
+        LirOp::Copy { to, from, bytes } => {
+            to.has_short_offset() && from.has_short_offset() && is_short(*bytes)
+        }
+        LirOp::Clear { to, bytes } => to.has_short_offset() && is_short(*bytes),
+        LirOp::Constant { .. }
+        | LirOp::Address { .. }
+        | LirOp::SlotAddress { .. }
+        | LirOp::Dictionary { .. }
+        | LirOp::Move { .. }
+        | LirOp::Binary { .. }
+        | LirOp::Unary { .. }
+        | LirOp::Checked { .. }
+        | LirOp::Divide { .. }
+        | LirOp::Shift { .. }
+        | LirOp::Convert { .. }
+        | LirOp::ConvertChecked { .. }
+        | LirOp::Compare { .. }
+        | LirOp::Branch { .. }
+        | LirOp::BranchIfZero { .. }
+        | LirOp::BranchUnlessZero { .. }
+        | LirOp::Jump { .. }
+        | LirOp::Call { .. }
+        | LirOp::Routine { .. }
+        | LirOp::Raise { .. }
+        | LirOp::Rethrow
+        | LirOp::Leave { .. }
+        | LirOp::EndHandler
+        | LirOp::Return { .. } => true,
     }
 }
 

@@ -110,7 +110,7 @@ rises-by f rising m (suc d) =
     let both : f m < f ((m + suc d) + 1) = omega (arith, before, last) in
     subst (λ k. f m < f k) e both
 
-rises : (f : ℕ → ℕ) → ((i : ℕ) → f i < f (i + 1)) → (m n : ℕ) → m < n → f m < f n
+pub rises : (f : ℕ → ℕ) → ((i : ℕ) → f i < f (i + 1)) → (m n : ℕ) → m < n → f m < f n
 rises f rising m n less =
     let e : m + suc (n - suc m) ≡ n = omega arith in
     subst (λ k. f m < f k) e (rises-by f rising m (n - suc m))

@@ -2,4 +2,3 @@ pub mod Calling
 pub mod Lines
 pub mod Placing
 pub mod Near
-pub mod Holds

@@ -8,7 +8,7 @@ ghost use Rattle.rv_step.specs.Machine.{MachineState, branches, effect, register
 ghost use Rattle.lir_core.specs.Values.{holds_of, word_of};
 ghost use Rattle.lir_core.specs.declared.op.Test.{Test};
 ghost use Rattle.rv_lines.specs.Computing.{condition_of};
-ghost use Rattle.rv_gen.specs.Holds.{holds};
+ghost use Rattle.rv_lines.specs.Holds.{holds};
 ghost use Rattle.rv_gen.specs.Placing.{branch, opposite};
 ghost use Rattle.rv_lines.specs.declared.line.Condition.{Condition};
 

@@ -1,1 +1,12 @@
 pub mod Values
+pub mod Tests
+pub mod Leading
+pub mod Words
+pub mod Shifting
+pub mod Converting
+pub mod Comparing
+pub mod Summing
+pub mod Multiplying
+pub mod Narrowing
+pub mod Dividing
+pub mod Refusing

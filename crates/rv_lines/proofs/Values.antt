@@ -23,30 +23,30 @@ use Rattle.rv_lines.specs.Computing.{combines}
 
 -- ---- the bits of a number, and what is left of it in so many
 
-signed_low_32 : (z : ℤ) → cast_signed w32 (low_bits 32 z) ≡ int_wrap w32 z
+pub signed_low_32 : (z : ℤ) → cast_signed w32 (low_bits 32 z) ≡ int_wrap w32 z
 signed_low_32 (pos n) = sym (int_wrap-pos w32 n)
 signed_low_32 (negsuc n) =
     let same : low_bits 32 (negsuc n) ≡ unsigned_abs (int_rem_euclid (negsuc n) (pos (2 ^ 32))) = omega (arith, ints) in
     ap (cast_signed w32) same ∙ sym (int_wrap-is w32 (negsuc n))
 
-signed_low_64 : (z : ℤ) → cast_signed w64 (low_bits 64 z) ≡ int_wrap w64 z
+pub signed_low_64 : (z : ℤ) → cast_signed w64 (low_bits 64 z) ≡ int_wrap w64 z
 signed_low_64 (pos n) = sym (int_wrap-pos w64 n)
 signed_low_64 (negsuc n) =
     let same : low_bits 64 (negsuc n) ≡ unsigned_abs (int_rem_euclid (negsuc n) (pos (2 ^ 64))) = omega (arith, ints) in
     ap (cast_signed w64) same ∙ sym (int_wrap-is w64 (negsuc n))
 
-low_below : (z : ℤ) → low_bits 64 z < 2 ^ 64
+pub low_below : (z : ℤ) → low_bits 64 z < 2 ^ 64
 low_below (pos n) = omega arith
 low_below (negsuc n) = omega arith
 
-low_of_signed : (n : ℕ) → n < 2 ^ 64 → low_bits 64 (cast_signed w64 n) ≡ n
+pub low_of_signed : (n : ℕ) → n < 2 ^ 64 → low_bits 64 (cast_signed w64 n) ≡ n
 low_of_signed n h = grind (arith, nat_tests)
 
-low_of_wrapped : (z : ℤ) → low_bits 64 (int_wrap w64 z) ≡ low_bits 64 z
+pub low_of_wrapped : (z : ℤ) → low_bits 64 (int_wrap w64 z) ≡ low_bits 64 z
 low_of_wrapped z = ap (low_bits 64) (sym (signed_low_64 z)) ∙ low_of_signed (low_bits 64 z) (low_below z)
 
 -- a register has what is left of its number
-in_register_32 : (z : ℤ) → int_wrap w32 (pos (low_bits 64 z)) ≡ int_wrap w32 z
+pub in_register_32 : (z : ℤ) → int_wrap w32 (pos (low_bits 64 z)) ≡ int_wrap w32 z
 in_register_32 (pos n) =
     let far : pos (n % 2 ^ 64) +ℤ pos ((n / 2 ^ 64 * 2 ^ 32) * 2 ^ 32) ≡ pos n +ℤ pos (0 * 2 ^ 32) =
     omega (arith, ints) in
@@ -56,7 +56,7 @@ in_register_32 (negsuc n) =
     = omega (arith, ints) in
     int_wrap-same w32 (pos (2 ^ 64 - 1 - n % 2 ^ 64)) (negsuc n) 0 ((n / 2 ^ 64 + 1) * 2 ^ 32) far
 
-in_register_64 : (z : ℤ) → int_wrap w64 (pos (low_bits 64 z)) ≡ int_wrap w64 z
+pub in_register_64 : (z : ℤ) → int_wrap w64 (pos (low_bits 64 z)) ≡ int_wrap w64 z
 in_register_64 (pos n) =
     let far : pos (n % 2 ^ 64) +ℤ pos (n / 2 ^ 64 * 2 ^ 64) ≡ pos n +ℤ pos (0 * 2 ^ 64) = omega (arith, ints) in
     int_wrap-same w64 (pos (n % 2 ^ 64)) (pos n) (n / 2 ^ 64) 0 far
@@ -66,21 +66,21 @@ in_register_64 (negsuc n) =
     int_wrap-same w64 (pos (2 ^ 64 - 1 - n % 2 ^ 64)) (negsuc n) 0 (n / 2 ^ 64 + 1) far
 
 -- two numbers of which the same is left give the same word
-left_32 : (z z' : ℤ) → int_wrap w32 z ≡ int_wrap w32 z' → low_word z ≡ low_bits 64 (int_wrap w32 z')
+pub left_32 : (z z' : ℤ) → int_wrap w32 z ≡ int_wrap w32 z' → low_word z ≡ low_bits 64 (int_wrap w32 z')
 left_32 z z' e = ap (low_bits 64) (signed_low_32 z ∙ e)
 
-left_64 : (z z' : ℤ) → int_wrap w64 z ≡ int_wrap w64 z' → low_bits 64 z ≡ low_bits 64 (int_wrap w64 z')
+pub left_64 : (z z' : ℤ) → int_wrap w64 z ≡ int_wrap w64 z' → low_bits 64 z ≡ low_bits 64 (int_wrap w64 z')
 left_64 z z' e = sym (low_of_wrapped z) ∙ ap (low_bits 64) e
 
 -- the number that a kind reads in a value is congruent to the value
-number_32 : (a : ℤ) → FitsSigned w32 a → int_wrap w32 (number U4 a) ≡ int_wrap w32 a
+pub number_32 : (a : ℤ) → FitsSigned w32 a → int_wrap w32 (number U4 a) ≡ int_wrap w32 a
 number_32 (pos n) fits = refl
 number_32 (negsuc n) fits =
     let small : n < 2 ^ 31 = fits.sfits in
     let far : number U4 (negsuc n) +ℤ pos (0 * 2 ^ 32) ≡ negsuc n +ℤ pos (1 * 2 ^ 32) = omega (arith, ints, small) in
     int_wrap-same w32 (number U4 (negsuc n)) (negsuc n) 0 1 far
 
-number_64 : (a : ℤ) → FitsSigned w64 a → int_wrap w64 (number U8 a) ≡ int_wrap w64 a
+pub number_64 : (a : ℤ) → FitsSigned w64 a → int_wrap w64 (number U8 a) ≡ int_wrap w64 a
 number_64 (pos n) fits = refl
 number_64 (negsuc n) fits =
     let small : n < 2 ^ 63 = fits.sfits in
@@ -88,7 +88,7 @@ number_64 (negsuc n) fits =
     int_wrap-same w64 (number U8 (negsuc n)) (negsuc n) 0 1 far
 
 -- sums, differences and products of registers are those of the numbers, whichever way a kind reads them
-sum_32 : (p q : ℕ) (a b z w : ℤ) → p ≡ low_bits 64 a → q ≡ low_bits 64 b
+pub sum_32 : (p q : ℕ) (a b z w : ℤ) → p ≡ low_bits 64 a → q ≡ low_bits 64 b
     → int_wrap w32 z ≡ int_wrap w32 a → int_wrap w32 w ≡ int_wrap w32 b
     → low_word (pos p +ℤ pos q) ≡ low_bits 64 (int_wrap w32 (z +ℤ w))
 sum_32 p q a b z w e f g h =
@@ -98,7 +98,7 @@ sum_32 p q a b z w e f g h =
     ∙ ap (λ u. int_wrap w32 (u +ℤ int_wrap w32 (pos (low_bits 64 b)))) (in_register_32 a ∙ sym g)
     ∙ ap (λ u. int_wrap w32 (int_wrap w32 z +ℤ u)) (in_register_32 b ∙ sym h) ∙ int_wrap-sum w32 z w)
 
-difference_32 : (p q : ℕ) (a b z w : ℤ) → p ≡ low_bits 64 a → q ≡ low_bits 64 b
+pub difference_32 : (p q : ℕ) (a b z w : ℤ) → p ≡ low_bits 64 a → q ≡ low_bits 64 b
     → int_wrap w32 z ≡ int_wrap w32 a → int_wrap w32 w ≡ int_wrap w32 b
     → low_word (pos p -ℤ pos q) ≡ low_bits 64 (int_wrap w32 (z -ℤ w))
 difference_32 p q a b z w e f g h =
@@ -108,7 +108,7 @@ difference_32 p q a b z w e f g h =
     ∙ ap (λ u. int_wrap w32 (u -ℤ int_wrap w32 (pos (low_bits 64 b)))) (in_register_32 a ∙ sym g)
     ∙ ap (λ u. int_wrap w32 (int_wrap w32 z -ℤ u)) (in_register_32 b ∙ sym h) ∙ int_wrap-difference w32 z w)
 
-product_32 : (p q : ℕ) (a b z w : ℤ) → p ≡ low_bits 64 a → q ≡ low_bits 64 b
+pub product_32 : (p q : ℕ) (a b z w : ℤ) → p ≡ low_bits 64 a → q ≡ low_bits 64 b
     → int_wrap w32 z ≡ int_wrap w32 a → int_wrap w32 w ≡ int_wrap w32 b
     → low_word (pos p *ℤ pos q) ≡ low_bits 64 (int_wrap w32 (z *ℤ w))
 product_32 p q a b z w e f g h =
@@ -118,7 +118,7 @@ product_32 p q a b z w e f g h =
     ∙ ap (λ u. int_wrap w32 (u *ℤ int_wrap w32 (pos (low_bits 64 b)))) (in_register_32 a ∙ sym g)
     ∙ ap (λ u. int_wrap w32 (int_wrap w32 z *ℤ u)) (in_register_32 b ∙ sym h) ∙ int_wrap-product w32 z w)
 
-sum_64 : (p q : ℕ) (a b z w : ℤ) → p ≡ low_bits 64 a → q ≡ low_bits 64 b
+pub sum_64 : (p q : ℕ) (a b z w : ℤ) → p ≡ low_bits 64 a → q ≡ low_bits 64 b
     → int_wrap w64 z ≡ int_wrap w64 a → int_wrap w64 w ≡ int_wrap w64 b
     → low_bits 64 (pos p +ℤ pos q) ≡ low_bits 64 (int_wrap w64 (z +ℤ w))
 sum_64 p q a b z w e f g h =
@@ -128,7 +128,7 @@ sum_64 p q a b z w e f g h =
     ∙ ap (λ u. int_wrap w64 (u +ℤ int_wrap w64 (pos (low_bits 64 b)))) (in_register_64 a ∙ sym g)
     ∙ ap (λ u. int_wrap w64 (int_wrap w64 z +ℤ u)) (in_register_64 b ∙ sym h) ∙ int_wrap-sum w64 z w)
 
-difference_64 : (p q : ℕ) (a b z w : ℤ) → p ≡ low_bits 64 a → q ≡ low_bits 64 b
+pub difference_64 : (p q : ℕ) (a b z w : ℤ) → p ≡ low_bits 64 a → q ≡ low_bits 64 b
     → int_wrap w64 z ≡ int_wrap w64 a → int_wrap w64 w ≡ int_wrap w64 b
     → low_bits 64 (pos p -ℤ pos q) ≡ low_bits 64 (int_wrap w64 (z -ℤ w))
 difference_64 p q a b z w e f g h =
@@ -138,7 +138,7 @@ difference_64 p q a b z w e f g h =
     ∙ ap (λ u. int_wrap w64 (u -ℤ int_wrap w64 (pos (low_bits 64 b)))) (in_register_64 a ∙ sym g)
     ∙ ap (λ u. int_wrap w64 (int_wrap w64 z -ℤ u)) (in_register_64 b ∙ sym h) ∙ int_wrap-difference w64 z w)
 
-product_64 : (p q : ℕ) (a b z w : ℤ) → p ≡ low_bits 64 a → q ≡ low_bits 64 b
+pub product_64 : (p q : ℕ) (a b z w : ℤ) → p ≡ low_bits 64 a → q ≡ low_bits 64 b
     → int_wrap w64 z ≡ int_wrap w64 a → int_wrap w64 w ≡ int_wrap w64 b
     → low_bits 64 (pos p *ℤ pos q) ≡ low_bits 64 (int_wrap w64 (z *ℤ w))
 product_64 p q a b z w e f g h =

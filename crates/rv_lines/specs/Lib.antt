@@ -2,3 +2,5 @@ pub mod Frame
 pub mod Operands
 pub mod Computing
 pub mod Moving
+pub mod Holds
+pub mod Leading
