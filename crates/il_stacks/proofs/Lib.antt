@@ -1,0 +1,4 @@
+pub mod Passing
+pub mod Search
+pub mod Joining
+pub mod Rounds

@@ -1,0 +1,18 @@
+//! What is known of the evaluation stack (ECMA-335 III.1.8.1): slots, stacks, what two ways of control leave, and the
+//! least stacks of code whose operations are resolved.
+#![tactic(auto)]
+
+mod copy;
+mod effect;
+mod flow;
+mod join;
+mod order;
+mod results;
+mod sets;
+mod slot;
+mod stack;
+
+pub use effect::{Effect, Handler, Results, Step};
+pub use flow::least_stacks;
+pub use slot::StackSlot;
+pub use stack::Stack;
