@@ -123,7 +123,7 @@ told_start facts e =
       only = λ to given has. only to given (subst (λ fs. Contains fs (to, given)) e has);
     }
   where
-    only : (to : ℕ) (given : Stack) → Contains ((0, Slots []) ∷ []) (to, given)
+    only : (to : ℕ) (given : Stack) → Contains {X = ℕ × Stack} ((0, Slots []) ∷ []) (to, given)
         → (fact : Stack) × Starts to fact × IsBelow given fact
     only to given has = by has.0 has.1 has.2
       where

@@ -184,7 +184,7 @@ all_right test [] others h = h
 all_right test (slot ∷ slots) others h =
     all_right test slots others (and_parts (test slot) (list_all test (slots ++ others)) h).1
 
-all_append : (test : StackSlot → Bool) (slots others : List StackSlot) → list_all test slots ≡ true
+pub all_append : (test : StackSlot → Bool) (slots others : List StackSlot) → list_all test slots ≡ true
     → list_all test others ≡ true → list_all test (slots ++ others) ≡ true
 all_append test [] others h h' = h'
 all_append test (slot ∷ slots) others h h' =

@@ -1,2 +1,4 @@
 pub mod Tables
+pub mod SoundRows
+pub mod Exactly
 mod Worked

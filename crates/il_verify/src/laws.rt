@@ -1,8 +1,29 @@
 //! Laws of the definitions. Each function does nothing, and ensures its laws of all values.
-ghost use Rattle.std.specs.Prelude.{◌≡◌, List, [], ◌∷◌};
+ghost use Rattle.std.specs.Prelude.{◌≡◌, ◌↔◌, List, [], ◌∷◌, Option};
+ghost use Rattle.ty_terms.specs.declared.names.MethodName.{MethodName};
+ghost use Rattle.il_code.specs.declared.body.Body.{Body};
+ghost use Rattle.il_stacks.specs.declared.stack.Stack.{Stack};
+ghost use Rattle.ty_names.specs.Modules.{World};
 ghost use Rattle.il_code.specs.Opcodes.{opcodes};
 ghost use Rattle.il_verify.specs.Raises.{is_outside, numbers_with, raises, NullReference, IndexOutOfRange};
 ghost use Rattle.il_verify.specs.Raises.{ArrayTypeMismatch, InvalidCast, Overflow, DivideByZero};
+ghost use Rattle.il_verify.specs.Flow.{AreLeastStacks};
+ghost use Rattle.il_verify.specs.Scope.{Scope};
+ghost use Rattle.il_verify.specs.Verified.{HasTyping, IsVerified, least_stacks};
+
+/// Rounds find the least stacks of a method's code, and there are no others.
+pub fn least_stacks_by_rounds()
+    ensures { (scope : Scope) (body : Body) (table : List (Option Stack)) →
+        AreLeastStacks scope body table ↔ (table ≡ least_stacks scope body) }
+{}
+
+/// A method is verified exactly where verifying gives a typing.
+pub fn verified_exactly()
+    ensures verified { (world : World) (name : MethodName) (body : Body) →
+        HasTyping world name body → IsVerified world name body }
+    ensures typed { (world : World) (name : MethodName) (body : Body) →
+        IsVerified world name body → HasTyping world name body }
+{}
 
 /// The opcodes that no program here may come to: floats, unmanaged pointers, blocks of memory, typed references, and
 /// calls that go through a pointer or take the frame along.
