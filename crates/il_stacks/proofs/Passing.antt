@@ -1,5 +1,6 @@
 -- What is passed on from a step stays within the bounds, and is all that the flow of stacks says.
-use Rattle.std.proofs.Common.{◌≡◌, ◌⊎◌, inl, inr, refl, sym, ap, subst, ◌∙◌, ℕ, zero, suc, ◌+◌, ◌<◌, Bool, true, false, ◌&&◌}
+use Rattle.std.proofs.Common.{◌≡◌, ◌⊎◌, inl, inr, refl, sym, ap, subst, ◌∙◌, ℕ, zero, suc, ◌+◌, ◌<◌, Bool, true}
+use Rattle.std.proofs.Common.{false, ◌&&◌}
 use Rattle.std.proofs.Common.{List, [], ◌∷◌, ◌++◌, length, map, filter, All, Contains, slice_index_or, arith}
 use Rattle.std.specs.List.{list_all}
 use Rattle.std.proofs.lemmas.Bool.{and_parts, and_from}
@@ -15,8 +16,9 @@ use Rattle.il_stacks.specs.Bounds.{IsWithin, are_sound, is_slot_within, types_me
 use Rattle.il_stacks.specs.BoundLaws.{behind_within, entry_within, handler_within, met_closed, step_within}
 use Rattle.il_stacks.specs.Effects.{behind}
 use Rattle.il_stacks.specs.Flow.{AreRising, Passes, Starts, entry, passed, tries}
-use Rattle.il_stacks.specs.Slots.{IsBelow, is_rising_slot, is_rising_stack}
-use Rattle.il_stacks.specs.SlotLaws.{reflexive}
+use Rattle.il_stacks.specs.Slots.{is_rising_slot, is_rising_stack}
+use Rattle.il_stacks.specs.Told.{IsRisingBelow}
+use Rattle.il_stacks.specs.ToldLaws.{rising_reflexive}
 use Rattle.il_stacks.specs.Types.{is_subset}
 
 rising_slots : (met : List Ty) (slots : List StackSlot) → list_all (is_slot_within met) slots ≡ true
@@ -88,7 +90,7 @@ only_one steps n m i j rising inside inside' is is' same = elim (before_behind n
 pub told_here : (objects : Ty → Bool) (steps : List Step) (handlers : List Handler) (place n : ℕ) (known : Stack)
     (facts : List (ℕ × Stack)) (step : Step) → AreRising steps → n < length steps → slice_index_or steps n step ≡ step
     → step.at ≡ place → facts ≡ passed objects handlers step known
-    → AreTold IsBelow (Passes objects steps handlers place known) facts
+    → AreTold IsRisingBelow (Passes objects steps handlers place known) facts
 told_here objects steps handlers place n known facts step rising inside is at e =
     record {
       all = λ to fact passes.
@@ -96,15 +98,15 @@ told_here objects steps handlers place n known facts step rising inside is at e 
           only_one steps passes.1.0 n passes.0 step rising passes.1.1 inside passes.1.2 is (passes.2 ∙ sym at) in
           let here : Contains (passed objects handlers step known) (to, fact) =
           subst (λ (s : Step). Contains (passed objects handlers s known) (to, fact)) same passes.3 in
-          (fact, subst (λ fs. Contains fs (to, fact)) (sym e) here, reflexive fact);
+          (fact, subst (λ fs. Contains fs (to, fact)) (sym e) here, rising_reflexive fact);
       only = λ to given has.
-          (given, (step, (n, inside, is), at, subst (λ fs. Contains fs (to, given)) e has), reflexive given);
+          (given, (step, (n, inside, is), at, subst (λ fs. Contains fs (to, given)) e has), rising_reflexive given);
     }
 
 -- where no step stands nothing is passed on
 pub told_nowhere : (objects : Ty → Bool) (steps : List Step) (handlers : List Handler) (place : ℕ) (known : Stack)
     → All (λ (step : Step). ¬ (step.at ≡ place)) steps
-    → AreTold IsBelow (Passes objects steps handlers place known) []
+    → AreTold IsRisingBelow (Passes objects steps handlers place known) []
 told_nowhere objects steps handlers place known none =
     record {
       all = λ to fact passes.
@@ -114,22 +116,23 @@ told_nowhere objects steps handlers place known none =
     }
 
 -- the code begins with an empty stack alone
-pub told_start : (facts : List (ℕ × Stack)) → facts ≡ (0, Slots []) ∷ [] → AreTold IsBelow Starts facts
+pub told_start : (facts : List (ℕ × Stack)) → facts ≡ (0, Slots []) ∷ [] → AreTold IsRisingBelow Starts facts
 told_start facts e =
     record {
       all = λ to fact starts.
           let here : (0, Slots []) ≡ (to, fact) = (λ k. (sym starts.0 k, sym starts.1 k)) in
-          (fact, subst (λ fs. Contains fs (to, fact)) (sym e) (0, omega arith, here), reflexive fact);
+          (fact, subst (λ fs. Contains fs (to, fact)) (sym e) (0, omega arith, here), rising_reflexive fact);
       only = λ to given has. only to given (subst (λ fs. Contains fs (to, given)) e has);
     }
   where
     only : (to : ℕ) (given : Stack) → Contains {X = ℕ × Stack} ((0, Slots []) ∷ []) (to, given)
-        → (fact : Stack) × Starts to fact × IsBelow given fact
+        → (fact : Stack) × Starts to fact × IsRisingBelow given fact
     only to given has = by has.0 has.1 has.2
       where
         by : (k : ℕ) → k < length {A = ℕ × Stack} ((0, Slots []) ∷ [])
             → slice_index_or {A = ℕ × Stack} ((0, Slots []) ∷ []) k (to, given) ≡ (to, given)
-            → (fact : Stack) × Starts to fact × IsBelow given fact
+            → (fact : Stack) × Starts to fact × IsRisingBelow given fact
         by zero inside is =
-            (given, (sym (ap (λ (f : ℕ × Stack). f.0) is), sym (ap (λ (f : ℕ × Stack). f.1) is)), reflexive given)
+            (given, (sym (ap (λ (f : ℕ × Stack). f.0) is), sym (ap (λ (f : ℕ × Stack). f.1) is)),
+            rising_reflexive given)
         by (suc k) inside is = absurd (omega (arith, inside))

@@ -1,11 +1,14 @@
 -- Rounds end, and what they end with are the least stacks.
-use Rattle.std.proofs.Common.{◌≡◌, ◌⊎◌, ◌≢◌, inl, inr, refl, sym, ap, subst, ◌∙◌, ℕ, zero, suc, ◌+◌, ◌*◌, ◌<◌, ◌≤◌, Bool, true}
-use Rattle.std.proofs.Common.{false, not, ◌&&◌, List, [], ◌∷◌, ◌++◌, length, map, filter, fold, replicate, Option, Some, None}
+use Rattle.std.proofs.Common.{◌≡◌, ◌⊎◌, ◌≢◌, ◌↔◌, inl, inr, refl, sym, ap, subst, ◌∙◌, ℕ, zero, suc, ◌+◌, ◌*◌, ◌<◌}
+use Rattle.std.proofs.Common.{◌≤◌, Bool, true}
+use Rattle.std.proofs.Common.{false, not, ◌&&◌, List, [], ◌∷◌, ◌++◌, length, map, filter, fold, replicate, Option}
+use Rattle.std.proofs.Common.{Some, None}
 use Rattle.std.proofs.Common.{All, Contains, slice_index_or, arith}
 use Rattle.std.proofs.Math.ListN.{set}
 use Rattle.std.proofs.lemmas.Bool.{and_parts, and_cases, cases_lt, cases_Bool}
 use Rattle.std.proofs.lemmas.List.{length-replicate, set_past}
-use Rattle.std.proofs.lemmas.List.Elements.{All-cons, All-nil, All-head, All-tail, All-weaker, All-contains, All-contains_itself}
+use Rattle.std.proofs.lemmas.List.Elements.{All-cons, All-nil, All-head, All-tail, All-weaker, All-contains}
+use Rattle.std.proofs.lemmas.List.Elements.{All-contains_itself}
 use Rattle.least_flow.specs.Solution.{row, IsRowBelow, AllBelow, Tells, IsClosedAt, IsSolution, IsLeast}
 use Rattle.least_flow.specs.Telling.{AreWithin, IfKnown, RowRaised, Told, height, heights, known_here, known_places}
 use Rattle.least_flow.proofs.Rows.{heights-bound, if_known, known-bound, known-none, row-none, rows-refl, rows-trans}
@@ -20,7 +23,8 @@ use Rattle.il_stacks.specs.Bounds.{IsWithin, are_sound, stack_rank, types_met}
 use Rattle.il_stacks.specs.BoundLaws.{bounded, joined_within, rank_grows, rank_more, widens}
 use Rattle.il_stacks.specs.Flow.{AreLeastStacks, Passes, Starts, passed}
 use Rattle.il_stacks.specs.FlowLaws.{monotone, passed_more}
-use Rattle.il_stacks.specs.Rounds.{first_table, is_row_below, is_table_below, most_rounds, one_further, one_round, pass_if}
+use Rattle.il_stacks.specs.Rounds.{first_table, is_row_below, is_table_below, most_rounds, one_further, one_round}
+use Rattle.il_stacks.specs.Rounds.{pass_if}
 use Rattle.il_stacks.specs.Rounds.{raised, raised_row, settled, stacks_by_rounds}
 use Rattle.il_stacks.specs.Slots.{IsBelow, is_below, is_rising_stack, joined}
 use Rattle.il_stacks.specs.SlotLaws.{joined_grows, joined_least, joined_told, reflexive, rising_joined, stack_same}
@@ -460,7 +464,8 @@ record IsAtEnd (objects : Ty → Bool) (steps : List Step) (handlers : List Hand
   way : IsOnTheWay objects steps handlers size table
   closed : IsClosed objects steps handlers table
 
-next_way : (objects : Ty → Bool) (steps : List Step) (handlers : List Handler) (size : ℕ) (old new : List (Option Stack))
+next_way : (objects : Ty
+    → Bool) (steps : List Step) (handlers : List Handler) (size : ℕ) (old new : List (Option Stack))
     → IsOnTheWay objects steps handlers size old → Went objects steps handlers steps old new
     → IsOnTheWay objects steps handlers size new
 next_way objects steps handlers size old new way went =
@@ -580,14 +585,14 @@ rounds_find objects steps handlers size sound =
 
 -- ---- and there are no others
 
-same_row : (r s : Option Stack) → IfKnown (λ stack. is_rising_stack stack ≡ true) r
+pub same_row : (r s : Option Stack) → IfKnown (λ stack. is_rising_stack stack ≡ true) r
     → IfKnown (λ stack. is_rising_stack stack ≡ true) s → IsRowBelow IsBelow r s → IsRowBelow IsBelow s r → r ≡ s
 same_row None None h h' b b' = refl
 same_row None (Some s) h h' b b' = absurd b'
 same_row (Some r) None h h' b b' = absurd b
 same_row (Some r) (Some s) h h' b b' = ap (λ a. Some a) (stack_same r s h h' b b')
 
-same_tables : (table other : List (Option Stack)) → length table ≡ length other
+pub same_tables : (table other : List (Option Stack)) → length table ≡ length other
     → ((place : ℕ) → row table place ≡ row other place) → table ≡ other
 same_tables [] [] size h = refl
 same_tables [] (s ∷ other) size h = absurd (omega (arith, size))
@@ -604,3 +609,12 @@ one_table objects steps handlers size table other a b =
     (λ place. same_row (row table place) (row other place) (a.rising place) (b.rising place)
     (a.least.least other (b.long ∙ sym a.long) b.least.solution place)
     (b.least.least table (a.long ∙ sym b.long) a.least.solution place))
+
+pub by_rounds : (objects : Ty → Bool) (steps : List Step) (handlers : List Handler) (size : ℕ)
+    (table : List (Option Stack)) → are_sound steps handlers ≡ true
+    → AreLeastStacks objects steps handlers size table ↔ (table ≡ stacks_by_rounds objects steps handlers size)
+by_rounds objects steps handlers size table sound =
+    (λ least. one_table objects steps handlers size table (stacks_by_rounds objects steps handlers size) least
+    (rounds_find objects steps handlers size sound),
+    λ same. subst (AreLeastStacks objects steps handlers size) (sym same)
+    (rounds_find objects steps handlers size sound))

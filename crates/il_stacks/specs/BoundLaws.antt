@@ -1,6 +1,7 @@
 -- Laws of depths, of the types that can be met, and of ranks: what is raised has a higher rank, and there is a highest.
 use Rattle.std.proofs.Common.{◌≡◌, refl, sym, ap, subst, ◌∙◌, ℕ, zero, suc, ◌+◌, ◌-◌, ◌*◌, ◌<◌, ◌≤◌, Bool, true, false}
-use Rattle.std.proofs.Common.{◌&&◌, ◌||◌, cond, List, [], ◌∷◌, ◌++◌, inl, inr, length, take, drop, Option, Some, None, arith}
+use Rattle.std.proofs.Common.{◌&&◌, ◌||◌, cond, List, [], ◌∷◌, ◌++◌, inl, inr, length, take, drop, Option, Some, None}
+use Rattle.std.proofs.Common.{arith}
 use Rattle.std.proofs.Common.{◌⊎◌, slice_index_or, Contains}
 use Rattle.std.specs.Prelude.{◌==◌, nat_lt}
 use Rattle.std.specs.List.{AllZip, list_all, flat_map}
@@ -171,14 +172,14 @@ first_within steps handlers h =
     within_met (first_slots steps handlers) (types_met steps handlers) h
     (all_nested (flat_map types_of_slot (first_slots steps handlers)))
 
-all_left : (test : StackSlot → Bool) (slots others : List StackSlot) → list_all test (slots ++ others) ≡ true
+pub all_left : (test : StackSlot → Bool) (slots others : List StackSlot) → list_all test (slots ++ others) ≡ true
     → list_all test slots ≡ true
 all_left test [] others h = refl
 all_left test (slot ∷ slots) others h =
     let parts = and_parts (test slot) (list_all test (slots ++ others)) h in
     and_from (test slot) (list_all test slots) parts.0 (all_left test slots others parts.1)
 
-all_right : (test : StackSlot → Bool) (slots others : List StackSlot) → list_all test (slots ++ others) ≡ true
+pub all_right : (test : StackSlot → Bool) (slots others : List StackSlot) → list_all test (slots ++ others) ≡ true
     → list_all test others ≡ true
 all_right test [] others h = h
 all_right test (slot ∷ slots) others h =
@@ -191,7 +192,7 @@ all_append test (slot ∷ slots) others h h' =
     let parts = and_parts (test slot) (list_all test slots) h in
     and_from (test slot) (list_all test (slots ++ others)) parts.0 (all_append test slots others parts.1 h')
 
-all_take : (test : StackSlot → Bool) (n : ℕ) (slots : List StackSlot) → list_all test slots ≡ true
+pub all_take : (test : StackSlot → Bool) (n : ℕ) (slots : List StackSlot) → list_all test slots ≡ true
     → list_all test (take n slots) ≡ true
 all_take test zero slots h = refl
 all_take test (suc n) [] h = refl
@@ -199,14 +200,14 @@ all_take test (suc n) (slot ∷ slots) h =
     let parts = and_parts (test slot) (list_all test slots) h in
     and_from (test slot) (list_all test (take n slots)) parts.0 (all_take test n slots parts.1)
 
-all_drop : (test : StackSlot → Bool) (n : ℕ) (slots : List StackSlot) → list_all test slots ≡ true
+pub all_drop : (test : StackSlot → Bool) (n : ℕ) (slots : List StackSlot) → list_all test slots ≡ true
     → list_all test (drop n slots) ≡ true
 all_drop test zero slots h = h
 all_drop test (suc n) [] h = refl
 all_drop test (suc n) (slot ∷ slots) h = all_drop test n slots (and_parts (test slot) (list_all test slots) h).1
 
 -- those of one of some parts are among all
-all_of_part : {A : Type 0} (test : StackSlot → Bool) (part : A → List StackSlot) (xs : List A) (x : A) (k : ℕ)
+pub all_of_part : {A : Type 0} (test : StackSlot → Bool) (part : A → List StackSlot) (xs : List A) (x : A) (k : ℕ)
     → k < length xs → slice_index_or xs k x ≡ x → list_all test (flat_map part xs) ≡ true
     → list_all test (part x) ≡ true
 all_of_part test part [] x k inside is h = absurd (omega arith)

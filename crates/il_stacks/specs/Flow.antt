@@ -1,7 +1,7 @@
 -- What is known of the stack at each offset of code: the least that tells what the operations pass on. ECMA-335
 -- III.1.7.5, III.1.8.1.1.
-use Rattle.std.specs.Prelude.{◌≡◌, ℕ, ◌<◌, ◌&&◌, slice_index_or, nat_le, nat_lt, Bool, List, [], ◌∷◌, ◌++◌, map, filter, length, Contains}
-use Rattle.std.specs.Prelude.{Option, Some, None, IsTrue}
+use Rattle.std.specs.Prelude.{◌≡◌, ℕ, ◌+◌, ◌<◌, ◌&&◌, slice_index_or, nat_le, nat_lt, Bool, true, List, [], ◌∷◌}
+use Rattle.std.specs.Prelude.{◌++◌, map, filter, length, Contains, Option, Some, None, IsTrue}
 use Rattle.ty_terms.specs.declared.ty.Ty.{Ty}
 use Rattle.least_flow.specs.Solution.{IsLeast, row}
 use Rattle.least_flow.specs.Telling.{IfKnown}
@@ -13,7 +13,12 @@ use Rattle.il_stacks.specs.declared.stack.Stack.TheVariants.{Slots}
 use Rattle.il_stacks.specs.Effects.{behind}
 use Rattle.il_stacks.specs.Slots.{IsBelow, is_rising_stack}
 
--- each step stands at a higher offset than those in front of it
+-- the steps stand from an offset on, each at a higher offset than those in front of it
+abbrev pub steps_rise : ℕ → List Step → Bool
+steps_rise low [] = true
+steps_rise low (step ∷ steps) = nat_le low step.at && steps_rise (step.at + 1) steps
+
+-- the same of any two
 abbrev pub AreRising : List Step → Type 0
 AreRising steps =
     (i j : ℕ) (d : Step) → i < j → j < length steps → (slice_index_or steps i d).at < (slice_index_or steps j d).at

@@ -9,3 +9,5 @@ pub mod EffectLaws
 pub mod BoundLaws
 pub mod FlowLaws
 pub mod Rounds
+pub mod Told
+pub mod ToldLaws

@@ -299,7 +299,8 @@ stack_same a b r r' h h' = same_by a b r r' (stack_from a b h) (stack_from b a h
 
 -- ---- what is joined keeps in order
 
-rising_if_same : (t : Bool) (slot : StackSlot) → is_rising_slot slot ≡ true → is_rising_slot (cond t slot Conflict) ≡ true
+rising_if_same : (t : Bool) (slot : StackSlot) → is_rising_slot slot ≡ true
+    → is_rising_slot (cond t slot Conflict) ≡ true
 rising_if_same true slot h = h
 rising_if_same false slot h = refl
 

@@ -1,11 +1,9 @@
 ghost use Rattle.std.specs.Prelude.{◌≡◌, ◌<◌, ◌++◌, ℕ, All, Contains, IfNone, IfOk, IfSome, OnOk, IsTrue, length, map};
 ghost use Rattle.std.specs.Prelude.{filter, slice_index_or};
-ghost use Rattle.least_flow.specs.Solution.{IsLeast};
 ghost use Rattle.ty_terms.specs.Canon.{is_reference_type};
 ghost use Rattle.il_stacks.specs.Bounds.{are_sound};
 ghost use Rattle.il_stacks.specs.Effects.{behind as behind_of};
-ghost use Rattle.il_stacks.specs.Flow.{AreRising, Passes, Starts, entry as entry_of, passed, tries as tries_of};
-ghost use Rattle.il_stacks.specs.Slots.{IsBelow};
+ghost use Rattle.il_stacks.specs.Flow.{AreLeastStacks, AreRising, entry as entry_of, passed, steps_rise, tries as tries_of};
 
 use crate::effect::{Handler, Step};
 use crate::join::joined;
@@ -30,11 +28,10 @@ pub fn least_stacks(
     handlers: &[Handler],
     size: u32,
 ) -> Result<Vec<Option<Stack>>, Memory>
-    requires rising { AreRising steps.now }
+    requires rising { IsTrue (steps_rise 0 steps.now) }
     requires sound { IsTrue (are_sound steps.now handlers.now) }
-    ensures size { IfOk result (λ table. length table.items ≡ size) }
-    ensures least { IfOk result (λ table.
-        IsLeast IsBelow Starts (Passes (is_reference_type values.now) steps.now handlers.now) table.items) }
+    ensures { IfOk result (λ table.
+        AreLeastStacks (is_reference_type values.now) steps.now handlers.now size table.items) }
 {
     let typing = Typing {
         values,
@@ -62,15 +59,14 @@ impl<'a> Flow for Typing<'a> {
     ghost use Rattle.il_stacks.specs.BoundLaws.{bounded, widens};
     ghost use Rattle.il_stacks.specs.Bounds.{IsWithin, stack_rank, types_met};
     ghost use Rattle.il_stacks.specs.Flow.{Passes, Starts};
-    ghost use Rattle.il_stacks.specs.FlowLaws.{monotone};
-    ghost use Rattle.il_stacks.specs.Slots.{IsBelow};
-    ghost use Rattle.il_stacks.specs.SlotLaws.{reflexive, transitive};
+    ghost use Rattle.il_stacks.specs.Told.{IsRisingBelow};
+    ghost use Rattle.il_stacks.specs.ToldLaws.{rising_monotone, rising_reflexive, rising_transitive};
 
     type Fact = Stack;
 
     ghost places = { λ typing. typing.size };
 
-    ghost is_below = { IsBelow };
+    ghost is_below = { IsRisingBelow };
 
     ghost starts = { λ typing. Starts };
 
@@ -106,12 +102,13 @@ impl<'a> Flow for Typing<'a> {
         Ok(true)
     }
 
-    ghost reflexive = { reflexive };
+    ghost reflexive = { rising_reflexive };
 
-    ghost transitive = { transitive };
+    ghost transitive = { rising_transitive };
 
     ghost monotone = { λ typing place a b to fact h passes.
-        monotone (is_reference_type typing.values.now) typing.steps.now typing.handlers.now place a b to fact h passes };
+        rising_monotone (is_reference_type typing.values.now) typing.steps.now typing.handlers.now typing.sound
+            place a b to fact h passes };
 
     ghost widens = { λ typing. widens (types_met typing.steps.now typing.handlers.now) };
 
@@ -139,7 +136,8 @@ fn passed_on(
     step: &Step,
     known: &Stack,
 ) -> Result<Vec<(usize, Stack)>, Memory>
-    ensures { IfOk result (λ facts. facts.items ≡ passed (is_reference_type values.now) handlers.now step.now known.now) }
+    ensures { IfOk result (λ facts.
+        facts.items ≡ passed (is_reference_type values.now) handlers.now step.now known.now) }
 {
     let mut facts = Vec::new(alloc);
     add_ways(alloc, &mut facts, values, step, known)?;

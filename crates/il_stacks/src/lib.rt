@@ -6,6 +6,7 @@ mod copy;
 mod effect;
 mod flow;
 mod join;
+mod laws;
 mod order;
 mod results;
 mod sets;
@@ -14,5 +15,6 @@ mod stack;
 
 pub use effect::{Effect, Handler, Results, Step};
 pub use flow::least_stacks;
+pub use laws::least_stacks_by_rounds;
 pub use slot::StackSlot;
 pub use stack::Stack;

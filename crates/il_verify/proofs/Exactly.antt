@@ -1,6 +1,8 @@
 -- Rounds find the least stacks of a method, and verifying tells exactly what fails in them.
-use Rattle.std.proofs.Common.{◌≡◌, ◌⊎◌, ◌↔◌, inl, inr, refl, sym, ap, subst, ◌∙◌, ℕ, zero, suc, ◌<◌, Bool, true, false, List, []}
-use Rattle.std.proofs.Common.{◌∷◌, length, find, Contains, slice_index_or, Option, Some, None, Result, Ok, Err, arith, cond}
+use Rattle.std.proofs.Common.{◌≡◌, ◌⊎◌, ◌↔◌, inl, inr, refl, sym, ap, subst, ◌∙◌, ℕ, zero, suc, ◌<◌, Bool, true}
+use Rattle.std.proofs.Common.{false, List, []}
+use Rattle.std.proofs.Common.{◌∷◌, length, find, Contains, slice_index_or, Option, Some, None, Result, Ok, Err, arith}
+use Rattle.std.proofs.Common.{cond}
 use Rattle.std.specs.Option.{option_map, option_map_or}
 use Rattle.ty_terms.specs.declared.names.MethodName.{MethodName}
 use Rattle.il_code.specs.declared.body.Body.{Body}
@@ -9,32 +11,29 @@ use Rattle.il_code.specs.Reach.{end_of}
 use Rattle.least_flow.specs.Solution.{row}
 use Rattle.ty_names.specs.Modules.{World}
 use Rattle.il_stacks.specs.declared.stack.Stack.{Stack}
-use Rattle.il_stacks.proofs.Rounds.{one_table, rounds_find}
+use Rattle.il_stacks.proofs.Rounds.{by_rounds as rounds_found}
 use Rattle.il_verify.specs.Flow.{AreLeastStacks, handlers_of_body, reached_offsets, steps_of}
 use Rattle.il_verify.specs.Kinds.{is_reference}
 use Rattle.il_verify.specs.Rules.{fails}
 use Rattle.il_verify.specs.Scope.{Scope, scope_of}
-use Rattle.il_verify.specs.Verified.{HasTyping, IsVerified, NoneFails, Typing, fails_at, first_failing, least_stacks, stacks_in}
+use Rattle.il_verify.specs.Verified.{HasTyping, IsVerified, NoneFails, Typing, fails_at, first_failing, least_stacks}
+use Rattle.il_verify.specs.Verified.{stacks_in}
 use Rattle.il_verify.specs.Verified.{typed_or, typing_of, verification, verified_in}
 use Rattle.il_verify.proofs.SoundRows.{all_sound}
 
-pub found_by_rounds : (scope : Scope) (body : Body) → AreLeastStacks scope body (least_stacks scope body)
-unfolding least_stacks
-found_by_rounds scope body =
-    rounds_find (is_reference scope.world) (steps_of scope body) (handlers_of_body scope body) (end_of body.code)
-    (all_sound scope body)
-
-pub one_typing : (scope : Scope) (body : Body) (table : List (Option Stack)) → AreLeastStacks scope body table
-    → table ≡ least_stacks scope body
-one_typing scope body table least =
-    one_table (is_reference scope.world) (steps_of scope body) (handlers_of_body scope body) (end_of body.code) table
-    (least_stacks scope body) least (found_by_rounds scope body)
-
 pub by_rounds : (scope : Scope) (body : Body) (table : List (Option Stack))
     → AreLeastStacks scope body table ↔ (table ≡ least_stacks scope body)
+unfolding least_stacks
 by_rounds scope body table =
-    (one_typing scope body table,
-    λ e. subst (AreLeastStacks scope body) (sym e) (found_by_rounds scope body))
+    rounds_found (is_reference scope.world) (steps_of scope body) (handlers_of_body scope body) (end_of body.code) table
+    (all_sound scope body)
+
+found_by_rounds : (scope : Scope) (body : Body) → AreLeastStacks scope body (least_stacks scope body)
+found_by_rounds scope body = (by_rounds scope body (least_stacks scope body)).1 refl
+
+one_typing : (scope : Scope) (body : Body) (table : List (Option Stack)) → AreLeastStacks scope body table
+    → table ≡ least_stacks scope body
+one_typing scope body table least = (by_rounds scope body table).0 least
 
 -- ---- what fails
 

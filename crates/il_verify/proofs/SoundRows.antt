@@ -1,5 +1,7 @@
 -- What rows give lists types in rising order.
-use Rattle.std.proofs.Common.{◌≡◌, refl, ℕ, Bool, true, false, ◌&&◌, cond, List, [], ◌∷◌, ◌++◌, map, Option, Some, None}
+use Rattle.std.proofs.Common.{◌≡◌, refl, ℕ, Bool, true, false, not, ◌&&◌, cond, List, [], ◌∷◌, ◌++◌, map, Option}
+use Rattle.std.proofs.Common.{Some, None}
+use Rattle.std.specs.Prelude.{codes}
 use Rattle.std.specs.List.{list_all, flat_map}
 use Rattle.std.specs.Option.{option_map_or, option_and_then}
 use Rattle.std.proofs.lemmas.Bool.{and_from}
@@ -19,7 +21,7 @@ use Rattle.il_stacks.specs.declared.effect.Effect.{Effect}
 use Rattle.il_stacks.specs.declared.effect.Results.{Results}
 use Rattle.il_stacks.specs.declared.effect.Results.TheVariants.{Always, ReferenceBehind}
 use Rattle.il_stacks.specs.declared.slot.StackSlot.{StackSlot}
-use Rattle.il_stacks.specs.declared.slot.StackSlot.TheVariants.{Pointer, View}
+use Rattle.il_stacks.specs.declared.slot.StackSlot.TheVariants.{Conflict, Pointer, View}
 use Rattle.il_stacks.specs.Bounds.{are_sound, slots_of_effect, slots_of_handler, slots_of_results, slots_of_step}
 use Rattle.il_stacks.specs.BoundLaws.{all_append}
 use Rattle.il_stacks.specs.Slots.{is_rising_slot}
@@ -34,7 +36,8 @@ use Rattle.il_verify.specs.Actions.{WriteStatic, VectorAction, NewVector, Length
 use Rattle.il_verify.specs.Actions.{ReadElement, WriteElement, AddressOfElement, CastAction, Box, Unbox, UnboxAny}
 use Rattle.il_verify.specs.Actions.{CastClass, IsInstance, CallAction, Call, CallVirtual, NewObject, Return}
 use Rattle.il_verify.specs.Actions.{ExceptionAction, Throw, Rethrow, EndFinally, Leave, Action, AtPlaces, OnNumbers}
-use Rattle.il_verify.specs.Actions.{OnBranches, ByPointers, OnFields, OnVectors, ByCasts, ByCalls, OnExceptions, Outside}
+use Rattle.il_verify.specs.Actions.{OnBranches, ByPointers, OnFields, OnVectors, ByCasts, ByCalls, OnExceptions}
+use Rattle.il_verify.specs.Actions.{Outside}
 use Rattle.il_verify.specs.BranchRows.{branch_row}
 use Rattle.il_verify.specs.CallRows.{Prefix, call_action_row, call_row, call_tests, new_row, param_test, param_tests}
 use Rattle.il_verify.specs.CallRows.{result_of, virtual_receiver, virtual_row, is_readonly}
@@ -47,9 +50,10 @@ use Rattle.il_verify.specs.Kinds.{is_value, slot_of, slot_of_content, slot_of_in
 use Rattle.il_verify.specs.NumberRows.{number_row}
 use Rattle.il_verify.specs.PlaceRows.{handle, handle_of, place_row, type_of_place}
 use Rattle.il_verify.specs.PointerRows.{pointer_row, what_is_read}
-use Rattle.il_verify.specs.Row.{Row, Test, misnamed, taking}
+use Rattle.il_verify.specs.Row.{Row, giving, taking}
 use Rattle.il_verify.specs.Rows.{exception_row, row_of}
-use Rattle.il_verify.specs.Scope.{Callee, Scope, instance_field, is_constructor, item, method_token, static_field, system}
+use Rattle.il_verify.specs.Scope.{Callee, Scope, instance_field, is_constructor, item, method_token, static_field}
+use Rattle.il_verify.specs.Scope.{system}
 use Rattle.il_verify.specs.Scope.{text_token, type_token}
 use Rattle.il_verify.specs.VectorRows.{element_address, vector_row}
 
@@ -103,6 +107,11 @@ either_row false row other h h' = h'
 
 -- ---- the groups
 
+handle_sound : (scope : Scope) (name : List ℕ) → IsSound (handle scope name)
+handle_sound scope name =
+    either (system scope.world name) (λ ty. giving (slot_of scope.world ty)) (giving Conflict)
+    (λ ty. always_of scope.world ty) refl
+
 place_sound : (scope : Scope) (action : PlaceAction) → IsSound (place_row scope action)
 place_sound scope Quiet = refl
 place_sound scope Twice = refl
@@ -117,8 +126,8 @@ place_sound scope (Text token) = either (text_token scope token) _ _ (λ units. 
 place_sound scope (Handle token) = either (item scope token) (handle_of scope) _ by refl
   where
     by : (found : Item) → IsSound (handle_of scope found)
-    by (OfType ty) = either (system scope.world _) _ _ (λ ty. always_of scope.world ty) refl
-    by (OfField name) = either (system scope.world _) _ _ (λ ty. always_of scope.world ty) refl
+    by (OfType ty) = handle_sound scope (codes "RuntimeTypeHandle")
+    by (OfField name) = handle_sound scope (codes "RuntimeFieldHandle")
     by (OfMethod name) = refl
     by (OfText units) = refl
 place_sound scope (SizeOf token) = either (type_token scope token) _ _ (λ ty. refl) refl
@@ -214,10 +223,16 @@ call_sound scope prefix (Call token) =
     called (method_token scope token) _ (λ callee. result_sound scope.world callee.result)
 call_sound scope prefix (CallVirtual token) =
     called (method_token scope token) (virtual_row scope.world prefix)
-    (λ callee. either_call callee.is_static _ _ tt (result_sound scope.world callee.result))
+    (λ callee. either_call callee.is_static None
+    (Some (taking (virtual_receiver scope.world prefix callee.name.owner ∷ param_tests scope.world callee.params)
+    (result_of scope.world callee.result)))
+    tt (result_sound scope.world callee.result))
 call_sound scope prefix (NewObject token) =
     called (method_token scope token) (new_row scope.world)
-    (λ callee. either_call _ _ _ (always_of scope.world callee.name.owner) tt)
+    (λ callee. either_call
+    (is_constructor scope.world callee.name && not callee.is_static && is_void callee.result)
+    (Some (taking (param_tests scope.world callee.params) (Always (slot_of scope.world callee.name.owner)))) None
+    (always_of scope.world callee.name.owner) tt)
 call_sound scope prefix Return = either_call (is_void scope.result) _ _ refl refl
 
 exception_sound : (action : ExceptionAction) → IsSound (exception_row action)

@@ -19,6 +19,7 @@ use Rattle.std.specs.declared.cmp.Ordering.TheVariants.{Less}
 use Rattle.ty_names.specs.References.{id_of}
 use Rattle.ty_load.specs.Tokens.{resolution}
 use Rattle.num_core.specs.declared.kind.Narrow.{Narrow}
+use Rattle.il_stacks.specs.Rounds.{stacks_by_rounds}
 use Rattle.il_verify.specs.Actions.{Signed, Integer, Sized, Native, Whole, Reference, Equal, Compare, ReadElementAs}
 use Rattle.il_verify.specs.Actions.{WriteElementAs, action_of}
 use Rattle.il_verify.specs.BranchRows.{branch_row}

@@ -1,9 +1,9 @@
 -- What is known of the stack at each offset of a method's code: the least that tells what the rows of its operations
 -- pass on. ECMA-335 III.1.7.5, III.1.8.1.1.
-use Rattle.std.specs.Prelude.{ℕ, zero, suc, ◌==◌, ◌&&◌, ◌||◌, Bool, List, [], ◌∷◌, ◌++◌, map, filter, find, length}
+use Rattle.std.specs.Prelude.{ℕ, ◌==◌, ◌&&◌, Bool, false, List, [], ◌∷◌, ◌++◌, map, find}
 use Rattle.std.specs.Prelude.{Option, Some, None}
 use Rattle.std.specs.List.{list_any}
-use Rattle.std.specs.Option.{option_map_or}
+use Rattle.std.specs.Option.{option_map, option_map_or}
 use Rattle.ty_terms.specs.declared.ty.Ty.{Ty}
 use Rattle.il_code.specs.declared.body.Body.{Body}
 use Rattle.il_code.specs.declared.body.Clause.{Clause}
@@ -11,7 +11,8 @@ use Rattle.il_code.specs.declared.body.ClauseKind.{ClauseKind}
 use Rattle.il_code.specs.declared.body.ClauseKind.TheVariants.{Catch, Filter, Finally, Fault}
 use Rattle.il_code.specs.declared.body.Instr.{Instr}
 use Rattle.il_code.specs.Listing.{targets_in}
-use Rattle.il_code.specs.Reach.{next_of, leads_of, end_of}
+use Rattle.il_code.specs.Marks.{known_from}
+use Rattle.il_code.specs.Reach.{next_of, end_of}
 use Rattle.il_stacks.specs.declared.effect.Effect.{Effect}
 use Rattle.il_stacks.specs.declared.effect.Effect.TheVariants.{Empties, Takes, Unknown}
 use Rattle.il_stacks.specs.declared.effect.Handler.{Handler}
@@ -20,6 +21,7 @@ use Rattle.il_stacks.specs.declared.slot.StackSlot.{StackSlot}
 use Rattle.il_stacks.specs.declared.slot.StackSlot.TheVariants.{Refs, Conflict}
 use Rattle.il_stacks.specs.declared.stack.Stack.{Stack}
 use Rattle.il_stacks.specs.Flow.{AreLeastStacks as AreLeastOf}
+use Rattle.il_stacks.specs.Rounds.{stacks_by_rounds}
 use Rattle.il_verify.specs.Actions.{Constrained, Readonly, Leave, Action, AtPlaces}
 use Rattle.il_verify.specs.Actions.{OnExceptions, action_of}
 use Rattle.il_verify.specs.CallRows.{Prefix, Unprefixed, ConstrainedTo, ReadonlyAddress}
@@ -36,20 +38,23 @@ action_at i = action_of i.op i.operand
 abbrev pub is_among : List ℕ → ℕ → Bool
 is_among offsets offset = list_any (λ other. other == offset) offsets
 
--- with each offset those to which control goes from it
-abbrev pub one_further : Body → List ℕ → List ℕ
-one_further body offsets =
-    map (λ i. i.at)
-    (filter (λ i. is_among offsets i.at
-    || list_any (λ from. is_among offsets from.at && is_among (leads_of body.clauses from) i.at) body.code) body.code)
+-- an instruction and a clause, as far as only the ways of control go
+abbrev pub bare_step : Instr → Step
+bare_step i = record { at = i.at; ways = next_of i ++ targets_in i.operand; effect = Unknown }
 
-abbrev pub further : ℕ → Body → List ℕ → List ℕ
-further zero body offsets = offsets
-further (suc steps) body offsets = further steps body (one_further body offsets)
+abbrev pub bare_handler : Clause → Handler
+bare_handler clause =
+    record { try_at = clause.try_at; try_end = clause.try_end; at = clause.handler_at; caught = None }
 
--- the offsets that control comes to from the begin; a way that meets none of them twice has no more steps
+-- that control comes to an offset, whatever is known there
+abbrev pub comes : Option Stack → Option (Unit {0})
+comes row = option_map (λ stack. tt) row
+
+-- the offsets that control comes to from the begin
 abbrev pub reached_offsets : Body → List ℕ
-reached_offsets body = further (length body.code) body (0 ∷ [])
+reached_offsets body =
+    known_from 0 (map comes (stacks_by_rounds (λ ty. false) (map bare_step body.code) (map bare_handler body.clauses)
+    (end_of body.code)))
 
 -- ---- prefixes
 

@@ -57,8 +57,11 @@ pointer_row scope (ReadObject token) =
     by_type scope token (misnamed 1 (Always Conflict)) (λ ty.
     taking (reads_from scope.world (content_of scope.world ty) ∷ []) (what_is_read scope.world ty))
 pointer_row scope (WriteObject token) =
-    by_type scope token (misnamed 2 Nothing) (λ ty. taking_both (writes_to scope.world (content_of scope.world ty)) Nothing)
+    by_type scope token (misnamed 2 Nothing) (λ ty.
+    taking_both (writes_to scope.world (content_of scope.world ty)) Nothing)
 pointer_row scope (CopyObject token) =
-    by_type scope token (misnamed 2 Nothing) (λ ty. taking_both (copies scope.world (content_of scope.world ty)) Nothing)
+    by_type scope token (misnamed 2 Nothing) (λ ty.
+    taking_both (copies scope.world (content_of scope.world ty)) Nothing)
 pointer_row scope (ClearObject token) =
-    by_type scope token (misnamed 1 Nothing) (λ ty. taking (points_to scope.world (content_of scope.world ty) ∷ []) Nothing)
+    by_type scope token (misnamed 1 Nothing) (λ ty.
+    taking (points_to scope.world (content_of scope.world ty) ∷ []) Nothing)

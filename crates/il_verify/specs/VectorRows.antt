@@ -57,7 +57,8 @@ vector_row scope readonly (NewVector token) =
 vector_row scope readonly Length = taking (is_vector ∷ []) (Always NativeInt)
 vector_row scope readonly (ReadElementAs access) = read_element_row scope.world access
 vector_row scope readonly (WriteElementAs access) =
-    taking (has_elements scope.world (content_of_access access) ∷ is_index ∷ is_stored_as scope.world access ∷ []) Nothing
+    taking (has_elements scope.world (content_of_access access) ∷ is_index ∷ is_stored_as scope.world access ∷ [])
+    Nothing
 vector_row scope readonly (ReadElement token) =
     by_type scope token (misnamed 2 (Always Conflict)) (λ ty.
     taking (are_objects_of scope.world (Vector ty) ∷ is_index ∷ []) (Always (slot_of scope.world ty)))

@@ -9,7 +9,7 @@ use Rattle.il_stacks.specs.declared.effect.Step.{Step}
 use Rattle.il_stacks.specs.declared.stack.Stack.{Stack}
 use Rattle.il_stacks.specs.Bounds.{IsWithin, types_met}
 use Rattle.il_stacks.specs.Flow.{Passes, passed}
-use Rattle.il_stacks.specs.Slots.{IsBelow}
+use Rattle.il_stacks.specs.Told.{IsRisingBelow}
 use Rattle.il_stacks.proofs.Passing.{passed_within, told_here, told_nowhere}
 use Rattle.il_stacks.proofs.flow.TypingFlow.pass.Goals as goal
 
@@ -29,7 +29,7 @@ returns-in-Some-clause-told c =
     let is : slice_index_or steps n step ≡ step = sym c.index-self-index.is in
     let at : step.at ≡ place = subst (λ (s : Step). s.at ≡ place) is (c.in-Some.ensures.found step) in
     if_ok c.passed_on.result (λ facts. facts.items ≡ passed objects handlers (slice_index_or steps n step) known)
-    (λ facts. AreTold IsBelow (Passes objects steps handlers place known) facts.items)
+    (λ facts. AreTold IsRisingBelow (Passes objects steps handlers place known) facts.items)
     (λ facts e. told_here objects steps handlers place n known facts.items step c.args.self.now.rising
     c.in-Some.ensures.within is at (e ∙ ap (λ (s : Step). passed objects handlers s known) is))
     c.passed_on.ensures
@@ -58,5 +58,6 @@ returns-in-None-clause-told c =
     let steps : List Step = c.args.self.now.steps.now in
     let handlers : List Handler = c.args.self.now.handlers.now in
     let objects = is_reference_type c.args.self.now.values.now in
-    subst (AreTold IsBelow (Passes objects steps handlers c.args.place c.args.known.now)) (sym c.new.ensures.items)
+    subst (AreTold IsRisingBelow (Passes objects steps handlers c.args.place c.args.known.now))
+    (sym c.new.ensures.items)
     (told_nowhere objects steps handlers c.args.place c.args.known.now c.in-None.ensures.none)
