@@ -1,2 +1,6 @@
 pub mod Tables
+pub mod SoundRows
+pub mod Exactly
+pub mod Reached
+pub mod Raising
 mod Worked

@@ -19,13 +19,18 @@ use Rattle.std.specs.declared.cmp.Ordering.TheVariants.{Less}
 use Rattle.ty_names.specs.References.{id_of}
 use Rattle.ty_load.specs.Tokens.{resolution}
 use Rattle.num_core.specs.declared.kind.Narrow.{Narrow}
+use Rattle.il_stacks.specs.Rounds.{stacks_by_rounds}
 use Rattle.il_verify.specs.Actions.{Signed, Integer, Sized, Native, Whole, Reference, Equal, Compare, ReadElementAs}
 use Rattle.il_verify.specs.Actions.{WriteElementAs, action_of}
 use Rattle.il_verify.specs.BranchRows.{branch_row}
 use Rattle.il_verify.specs.Kinds.{may_store}
 use Rattle.il_verify.specs.Rows.{row_of}
 use Rattle.il_verify.specs.Scope.{Scope}
-use Rattle.il_verify.specs.Slots.{Slot, Int32, NativeInt, Refs, Pointer, Stack, Slots, joined_slot}
+use Rattle.il_stacks.specs.declared.slot.StackSlot.{StackSlot}
+use Rattle.il_stacks.specs.declared.slot.StackSlot.TheVariants.{Int32, NativeInt, Refs, Pointer}
+use Rattle.il_stacks.specs.declared.stack.Stack.{Stack}
+use Rattle.il_stacks.specs.declared.stack.Stack.TheVariants.{Slots}
+use Rattle.il_stacks.specs.Slots.{joined_slot}
 use Rattle.il_verify.specs.VectorRows.{vector_row}
 use Rattle.il_verify.specs.Verified.{Typing, least_stacks, verified_in}
 
@@ -61,7 +66,7 @@ finally try_at try_end handler_at handler_end =
 
 -- what verifying tells of instructions, with clauses or without them
 told : List Instr → List Clause → Result Typing ℕ
-unfolding scope body least_stacks row_of action_of resolution Types.out-Ty denote.Hole.Carrier.out
+unfolding scope body least_stacks stacks_by_rounds row_of action_of resolution Types.out-Ty denote.Hole.Carrier.out
 told code clauses = verified_in scope (body code clauses)
 
 typed : List (ℕ × Stack) → Result Typing ℕ
@@ -91,7 +96,7 @@ native =
     at 0 1 Op.Ldarg0 Nothing ∷ at 1 2 Op.Ldloc3 Nothing ∷ at 2 3 Op.Add Nothing ∷ at 3 4 Op.Stloc3 Nothing
     ∷ at 4 5 Op.Ldarg0 Nothing ∷ at 5 6 Op.Stloc3 Nothing ∷ at 6 7 Op.Ldarg1 Nothing ∷ at 7 8 Op.Ret Nothing ∷ []
 
-goes_native : told native [] ≡ typed ((0, none) ∷ (1, Slots (Int32 ∷ [])) ∷ (2, Slots (NativeInt ∷ Int32 ∷ []))
+goes_native : told native [] ≡ typed ((0, none) ∷ (1, Slots (Int32 ∷ [])) ∷ (2, Slots (Int32 ∷ NativeInt ∷ []))
     ∷ (3, Slots (NativeInt ∷ [])) ∷ (4, none) ∷ (5, Slots (Int32 ∷ [])) ∷ (6, none) ∷ (7, Slots (Int32 ∷ [])) ∷ [])
 unfolding told native typed none
 goes_native = refl
@@ -188,7 +193,7 @@ no_token = refl
 
 -- ---- operands of single operations
 
-vectors : Slot
+vectors : StackSlot
 vectors = Refs (Vector (Prim Primitive.I4) ∷ [])
 
 -- an element is read by its width and kind, whatever its sign

@@ -5,7 +5,9 @@ use Rattle.il_verify.specs.Actions.{GreaterOrEqual, BranchAction, Compare, Go, G
 use Rattle.il_verify.specs.Actions.{GoAmong}
 use Rattle.il_verify.specs.NumberRows.{agree}
 use Rattle.il_verify.specs.Row.{Row, is_number, is_int32, is_object, taking, taking_both}
-use Rattle.il_verify.specs.Slots.{Slot, Int32}
+use Rattle.il_stacks.specs.declared.effect.Results.TheVariants.{Nothing, Always}
+use Rattle.il_stacks.specs.declared.slot.StackSlot.{StackSlot}
+use Rattle.il_stacks.specs.declared.slot.StackSlot.TheVariants.{Int32}
 
 -- `ceq` and `cgt.un` compare references, too, and so do `beq` and `bne.un`
 abbrev pub compares_objects : Comparison → Bool
@@ -26,13 +28,13 @@ branches_on_objects (LessOrEqual sign) = false
 branches_on_objects (GreaterOrEqual sign) = false
 
 -- two numbers that agree, or two references where these are compared, too
-abbrev pub comparable : Bool → Slot → Slot → Bool
+abbrev pub comparable : Bool → StackSlot → StackSlot → Bool
 comparable objects a b = agree a b || (objects && is_object a && is_object b)
 
 abbrev pub branch_row : BranchAction → Row
-branch_row (Compare comparison) = taking_both (comparable (compares_objects comparison)) (Int32 ∷ [])
-branch_row (Go target) = taking [] []
-branch_row (GoUnlessZero target) = taking ((λ slot. is_number slot || is_object slot) ∷ []) []
-branch_row (GoIfZero target) = taking ((λ slot. is_number slot || is_object slot) ∷ []) []
-branch_row (GoComparing comparison target) = taking_both (comparable (branches_on_objects comparison)) []
-branch_row (GoAmong targets) = taking (is_int32 ∷ []) []
+branch_row (Compare comparison) = taking_both (comparable (compares_objects comparison)) (Always Int32)
+branch_row (Go target) = taking [] Nothing
+branch_row (GoUnlessZero target) = taking ((λ slot. is_number slot || is_object slot) ∷ []) Nothing
+branch_row (GoIfZero target) = taking ((λ slot. is_number slot || is_object slot) ∷ []) Nothing
+branch_row (GoComparing comparison target) = taking_both (comparable (branches_on_objects comparison)) Nothing
+branch_row (GoAmong targets) = taking (is_int32 ∷ []) Nothing

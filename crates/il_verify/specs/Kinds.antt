@@ -14,10 +14,12 @@ use Rattle.ty_names.specs.Modules.{World}
 use Rattle.ty_load.specs.Primitives.{system_type}
 use Rattle.ty_load.specs.Bases.{is_id, is_value_type, named_base_definition, closed_if}
 use Rattle.ty_load.specs.Cycles.{instance_fields}
-use Rattle.ty_load.specs.Members.{field_sig, same_type}
+use Rattle.ty_load.specs.Members.{field_sig}
+use Rattle.il_stacks.specs.Types.{same_type}
 use Rattle.ty_load.specs.Walks.{fitting}
 use Rattle.il_verify.specs.Actions.{Signed, Unsigned, Integer, Sized, Native, Access, Whole, Reference}
-use Rattle.il_verify.specs.Slots.{Slot, Int32, Int64, NativeInt, Refs, Pointer, Value, Conflict}
+use Rattle.il_stacks.specs.declared.slot.StackSlot.{StackSlot}
+use Rattle.il_stacks.specs.declared.slot.StackSlot.TheVariants.{Int32, Int64, NativeInt, Refs, Pointer, Value, Conflict}
 
 -- ---- fitting
 
@@ -93,9 +95,10 @@ content_of_layer world ty (Ty-F.Prim primitive) = content_of_primitive primitive
 content_of_layer world ty (Ty-F.Named id args) = content_of_named world ty id
 content_of_layer world ty (Ty-F.Vector element) = Object
 content_of_layer world ty (Ty-F.ByRef target) = Pointing target
+content_of_layer world ty Ty-F.Canon = Object
 content_of_layer world ty _ = NoContent
 
--- what stands in a place of a type
+-- what stands in a place of a type; `Canon` stands for any type of references
 abbrev pub content_of : World → Ty → Content
 content_of world ty = content_of_layer world ty (out-Ty ty)
 
@@ -148,13 +151,13 @@ content_of_access Reference = Object
 -- ---- slots
 
 -- the slot of a number of a type: small ones are widened (I.12.1.2)
-abbrev pub slot_of_integer : Integer → Slot
+abbrev pub slot_of_integer : Integer → StackSlot
 slot_of_integer (Sized I8) = Int64
 slot_of_integer (Sized U8) = Int64
 slot_of_integer (Sized narrow) = Int32
 slot_of_integer (Native sign) = NativeInt
 
-abbrev pub slot_of_content : Ty → Content → Slot
+abbrev pub slot_of_content : Ty → Content → StackSlot
 slot_of_content ty (Number integer) = slot_of_integer integer
 slot_of_content ty Object = Refs (ty ∷ [])
 slot_of_content ty (Compound value) = Value value
@@ -162,14 +165,14 @@ slot_of_content ty (Pointing target) = Pointer target
 slot_of_content ty NoContent = Conflict
 
 -- the slot into which a value of a type is loaded
-abbrev pub slot_of : World → Ty → Slot
+abbrev pub slot_of : World → Ty → StackSlot
 slot_of world ty = slot_of_content ty (content_of world ty)
 
 -- ---- storing
 
 -- What may be stored where a slot is wanted: a number where one of its kind is, an int32 where a native int is, too;
 -- references of which each type fits; pointers and values of the same type.
-abbrev pub may_stand_for : World → Slot → Slot → Bool
+abbrev pub may_stand_for : World → StackSlot → StackSlot → Bool
 may_stand_for world Int32 Int32 = true
 may_stand_for world Int32 NativeInt = true
 may_stand_for world Int64 Int64 = true
@@ -180,5 +183,5 @@ may_stand_for world (Value a) (Value b) = same_type a b
 may_stand_for world _ _ = false
 
 -- a slot may be stored in a place of a type
-abbrev pub may_store : World → Slot → Ty → Bool
+abbrev pub may_store : World → StackSlot → Ty → Bool
 may_store world slot ty = may_stand_for world slot (slot_of world ty)

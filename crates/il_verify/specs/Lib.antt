@@ -1,5 +1,4 @@
 pub mod Actions
-pub mod Slots
 pub mod Kinds
 pub mod Scope
 pub mod Row

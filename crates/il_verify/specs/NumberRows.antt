@@ -1,31 +1,19 @@
 -- Arithmetic and conversion: ECMA-335 III.1.5, III.3.1 to III.3.3, III.3.27 to III.3.32, III.3.48 to III.3.67.
-use Rattle.std.specs.Prelude.{Bool, ◌&&◌, if◌then◌else◌, [], ◌∷◌}
+use Rattle.std.specs.Prelude.{Bool, true, ◌&&◌, [], ◌∷◌}
+use Rattle.il_stacks.specs.Effects.{agreed}
+use Rattle.il_stacks.specs.declared.effect.Results.TheVariants.{Always, SameNumber, AgreedNumber, FirstNumber}
+use Rattle.il_stacks.specs.declared.slot.StackSlot.{StackSlot}
 use Rattle.il_verify.specs.Actions.{NumberAction, Combine, Shift, Negate, Complement, Convert, ConvertChecked}
 use Rattle.il_verify.specs.Kinds.{slot_of_integer}
-use Rattle.il_verify.specs.Row.{Row, is_number, is_index, is_usable, taking, turning, merging}
-use Rattle.il_verify.specs.Slots.{Slot, Int32, Int64, NativeInt, Conflict}
+use Rattle.il_verify.specs.Row.{Row, is_number, is_index, is_usable, taking, taking_both}
 
--- what two numbers give: those of one kind a number of that kind, an int32 with a native int a native int
-abbrev pub agreed : Slot → Slot → Slot
-agreed Int32 Int32 = Int32
-agreed Int64 Int64 = Int64
-agreed NativeInt NativeInt = NativeInt
-agreed Int32 NativeInt = NativeInt
-agreed NativeInt Int32 = NativeInt
-agreed _ _ = Conflict
-
-abbrev pub agree : Slot → Slot → Bool
+abbrev pub agree : StackSlot → StackSlot → Bool
 agree a b = is_usable (agreed a b)
 
--- the kind of a number
-abbrev pub number_or_conflict : Slot → Slot
-number_or_conflict slot = if is_number slot then slot else Conflict
-
 abbrev pub number_row : NumberAction → Row
-number_row (Combine operation) = merging agree agreed
-number_row (Shift operation) =
-    merging (λ number amount. is_number number && is_index amount) (λ number amount. number_or_conflict number)
-number_row Negate = turning is_number number_or_conflict
-number_row Complement = turning is_number number_or_conflict
-number_row (Convert to) = taking (is_number ∷ []) (slot_of_integer to ∷ [])
-number_row (ConvertChecked sign to) = taking (is_number ∷ []) (slot_of_integer to ∷ [])
+number_row (Combine operation) = taking_both agree AgreedNumber
+number_row (Shift operation) = taking_both (λ number amount. is_number number && is_index amount) FirstNumber
+number_row Negate = taking (is_number ∷ []) SameNumber
+number_row Complement = taking (is_number ∷ []) SameNumber
+number_row (Convert to) = taking (is_number ∷ []) (Always (slot_of_integer to))
+number_row (ConvertChecked sign to) = taking (is_number ∷ []) (Always (slot_of_integer to))

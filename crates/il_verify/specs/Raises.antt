@@ -1,7 +1,8 @@
 -- Which exceptions of the runtime an operation can raise: the tables of ECMA-335 III.3 and III.4, without those that
 -- no program here can meet.
-use Rattle.std.specs.Prelude.{ℕ, pos, Bool, true, false, List, [], ◌∷◌, map, filter}
+use Rattle.std.specs.Prelude.{ℕ, pos, ◌&&◌, Bool, true, false, not, if◌then◌else◌, List, [], ◌∷◌, map, filter}
 use Rattle.std.specs.List.{list_any}
+use Rattle.std.specs.Option.{option_map_or}
 use Rattle.il_code.specs.declared.body.Operand.{Operand}
 use Rattle.il_code.specs.declared.body.Operand.TheVariants.{Nothing, Number as NumberOf, Token as TokenOf}
 use Rattle.il_code.specs.declared.body.Operand.TheVariants.{Target as TargetOf, Targets as TargetsOf}
@@ -18,7 +19,10 @@ use Rattle.il_verify.specs.Actions.{WriteElementAs, ReadElement, WriteElement, A
 use Rattle.il_verify.specs.Actions.{Unbox, UnboxAny, CastClass, IsInstance, CallAction, Call, CallVirtual, NewObject}
 use Rattle.il_verify.specs.Actions.{Return, ExceptionAction, Throw, Rethrow, EndFinally, Leave, Action, AtPlaces}
 use Rattle.il_verify.specs.Actions.{OnNumbers, OnBranches, ByPointers, OnFields, OnVectors, ByCasts, ByCalls}
-use Rattle.il_verify.specs.Actions.{OnExceptions, Outside, action_of}
+use Rattle.il_verify.specs.Actions.{OnExceptions, Outside, action_of, Access, Whole, Reference}
+use Rattle.il_verify.specs.CallRows.{Prefix, is_readonly}
+use Rattle.il_verify.specs.Kinds.{is_reference}
+use Rattle.il_verify.specs.Scope.{Scope, type_token}
 
 -- the exceptions of the namespace System that operations raise
 pub data Raised : Type 0 where
@@ -58,8 +62,7 @@ raised_by_field (ReadStatic token) = []
 raised_by_field (AddressOfStatic token) = []
 raised_by_field (WriteStatic token) = []
 
--- An element whose type doesn't fit is met among references alone, and not behind `readonly.`, which the opcode doesn't
--- tell.
+-- whether elements are references, and whether `readonly.` stands in front, the opcode doesn't tell
 abbrev pub raised_by_vector : VectorAction → List Raised
 raised_by_vector (NewVector token) = Overflow ∷ []
 raised_by_vector Length = NullReference ∷ []
@@ -69,7 +72,7 @@ raised_by_vector (ReadElement token) = NullReference ∷ IndexOutOfRange ∷ []
 raised_by_vector (WriteElement token) = NullReference ∷ IndexOutOfRange ∷ ArrayTypeMismatch ∷ []
 raised_by_vector (AddressOfElement token) = NullReference ∷ IndexOutOfRange ∷ ArrayTypeMismatch ∷ []
 
--- `unbox.any` of a reference type raises InvalidCast alone, which the opcode doesn't tell
+-- whether the type is one of references the opcode doesn't tell
 abbrev pub raised_by_cast : CastAction → List Raised
 raised_by_cast (Box token) = []
 raised_by_cast (Unbox token) = NullReference ∷ InvalidCast ∷ []
@@ -101,6 +104,52 @@ can_raise (ByCasts action) = raised_by_cast action
 can_raise (ByCalls action) = raised_by_call action
 can_raise (OnExceptions action) = raised_by_exception action
 can_raise Outside = []
+
+-- ---- what an operation raises, where its token and its prefix are known too
+
+abbrev pub is_reference_token : Scope → ℕ → Bool
+is_reference_token scope token = option_map_or (is_reference scope.world) (type_token scope token) false
+
+-- An element whose type doesn't fit is met among references alone, and not behind `readonly.` (III.2.3, III.4.9).
+abbrev pub raised_by_element : Bool → List Raised
+raised_by_element tested = if tested then NullReference ∷ IndexOutOfRange ∷ ArrayTypeMismatch ∷ []
+    else NullReference ∷ IndexOutOfRange ∷ []
+
+abbrev pub is_whole : Access → Bool
+is_whole (Whole integer) = true
+is_whole Reference = false
+
+abbrev pub vector_raises : Scope → Bool → VectorAction → List Raised
+vector_raises scope readonly (NewVector token) = raised_by_vector (NewVector token)
+vector_raises scope readonly Length = raised_by_vector Length
+vector_raises scope readonly (ReadElementAs access) = raised_by_element false
+vector_raises scope readonly (WriteElementAs access) = raised_by_element (not (is_whole access))
+vector_raises scope readonly (ReadElement token) = raised_by_element false
+vector_raises scope readonly (WriteElement token) = raised_by_element (is_reference_token scope token)
+vector_raises scope readonly (AddressOfElement token) =
+    raised_by_element (is_reference_token scope token && not readonly)
+
+-- `unbox.any` of a reference type is a cast (III.4.33)
+abbrev pub cast_raises : Scope → CastAction → List Raised
+cast_raises scope (Box token) = raised_by_cast (Box token)
+cast_raises scope (Unbox token) = raised_by_cast (Unbox token)
+cast_raises scope (UnboxAny token) =
+    if is_reference_token scope token then InvalidCast ∷ [] else NullReference ∷ InvalidCast ∷ []
+cast_raises scope (CastClass token) = raised_by_cast (CastClass token)
+cast_raises scope (IsInstance token) = raised_by_cast (IsInstance token)
+
+-- what an operation behind a prefix can raise, in the order in which it is tested
+abbrev pub raised_at : Scope → Prefix → Action → List Raised
+raised_at scope prefix (AtPlaces action) = can_raise (AtPlaces action)
+raised_at scope prefix (OnNumbers action) = can_raise (OnNumbers action)
+raised_at scope prefix (OnBranches action) = can_raise (OnBranches action)
+raised_at scope prefix (ByPointers action) = can_raise (ByPointers action)
+raised_at scope prefix (OnFields action) = can_raise (OnFields action)
+raised_at scope prefix (OnVectors action) = vector_raises scope (is_readonly prefix) action
+raised_at scope prefix (ByCasts action) = cast_raises scope action
+raised_at scope prefix (ByCalls action) = can_raise (ByCalls action)
+raised_at scope prefix (OnExceptions action) = can_raise (OnExceptions action)
+raised_at scope prefix Outside = can_raise Outside
 
 -- ---- opcodes by what they raise
 

@@ -1,6 +1,7 @@
 -- The row of each operation: what it takes and gives, with its token resolved and its type's and method's arguments in
 -- place of variables. ECMA-335 III.3, III.4.
 use Rattle.std.specs.Prelude.{[], ◌∷◌, Option, Some, None}
+use Rattle.il_stacks.specs.declared.effect.Results.TheVariants.{Nothing}
 use Rattle.il_verify.specs.Actions.{ExceptionAction, Throw, Rethrow, EndFinally, Leave, Action, AtPlaces, OnNumbers}
 use Rattle.il_verify.specs.Actions.{OnBranches, ByPointers, OnFields, OnVectors, ByCasts, ByCalls, OnExceptions}
 use Rattle.il_verify.specs.Actions.{Outside}
@@ -17,10 +18,10 @@ use Rattle.il_verify.specs.VectorRows.{vector_row}
 
 -- exceptions: `throw`, `rethrow`, `endfinally` and `leave` (III.3.35, III.3.46, III.4.24, III.4.31)
 abbrev pub exception_row : ExceptionAction → Row
-exception_row Throw = taking (is_object ∷ []) []
-exception_row Rethrow = taking [] []
-exception_row EndFinally = taking [] []
-exception_row (Leave target) = taking [] []
+exception_row Throw = taking (is_object ∷ []) Nothing
+exception_row Rethrow = taking [] Nothing
+exception_row EndFinally = taking [] Nothing
+exception_row (Leave target) = taking [] Nothing
 
 -- the row of an operation behind a prefix, if there is one
 unfoldable pub row_of : Scope → Prefix → Action → Option Row

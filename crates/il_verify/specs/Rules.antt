@@ -10,12 +10,15 @@ use Rattle.il_code.specs.Reach.{next_of}
 use Rattle.il_verify.specs.Actions.{Constrained, Readonly, AddressOfElement}
 use Rattle.il_verify.specs.Actions.{CallVirtual, Return, Rethrow, EndFinally, Leave, Action, AtPlaces}
 use Rattle.il_verify.specs.Actions.{OnVectors, ByCalls, OnExceptions}
-use Rattle.il_verify.specs.Flow.{action_at, row_at, has_operands, operands, is_among}
+use Rattle.il_verify.specs.Flow.{action_at, row_at, is_among}
+use Rattle.il_stacks.specs.Effects.{has_operands, operands}
 use Rattle.il_verify.specs.Ranges.{may_go, may_leave, begins_range, is_in_handler, is_in_catch, is_in_range}
 use Rattle.il_verify.specs.Ranges.{ends_finally}
 use Rattle.il_verify.specs.Row.{Row, is_usable}
 use Rattle.il_verify.specs.Scope.{Scope}
-use Rattle.il_verify.specs.Slots.{Slot, Stack, Slots, Clash}
+use Rattle.il_stacks.specs.declared.slot.StackSlot.{StackSlot}
+use Rattle.il_stacks.specs.declared.stack.Stack.{Stack}
+use Rattle.il_stacks.specs.declared.stack.Stack.TheVariants.{Slots, Clash}
 
 pub data Rule : Type 0 where
   -- stacks of different depths meet here, or one was too short before
@@ -51,15 +54,15 @@ rules =
 
 -- ---- stacks
 
-abbrev pub on_slots : Bool → (List Slot → Bool) → Stack → Bool
+abbrev pub on_slots : Bool → (List StackSlot → Bool) → Stack → Bool
 on_slots clash test (Slots slots) = test slots
 on_slots clash test Clash = clash
 
 abbrev pub has_kind_of_item : Option Row → Bool
 has_kind_of_item row = option_map_or (λ found. found.names) row false
 
-abbrev pub suits_row : List Slot → Row → Bool
-suits_row slots row = has_operands row slots && row.suits (operands row slots)
+abbrev pub suits_row : List StackSlot → Row → Bool
+suits_row slots row = has_operands row.takes slots && row.suits (operands row.takes slots)
 
 -- ---- what stands where
 

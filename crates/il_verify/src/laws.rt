@@ -1,8 +1,39 @@
 //! Laws of the definitions. Each function does nothing, and ensures its laws of all values.
-ghost use Rattle.std.specs.Prelude.{◌≡◌, List, [], ◌∷◌};
+ghost use Rattle.std.specs.Prelude.{◌≡◌, ◌↔◌, IsTrue, List, [], ◌∷◌, Option};
+ghost use Rattle.std.specs.List.{list_any};
+ghost use Rattle.ty_terms.specs.declared.names.MethodName.{MethodName};
+ghost use Rattle.il_code.specs.declared.body.Body.{Body};
+ghost use Rattle.il_stacks.specs.declared.stack.Stack.{Stack};
+ghost use Rattle.ty_names.specs.Modules.{World};
 ghost use Rattle.il_code.specs.Opcodes.{opcodes};
-ghost use Rattle.il_verify.specs.Raises.{is_outside, numbers_with, raises, NullReference, IndexOutOfRange};
+ghost use Rattle.il_verify.specs.Actions.{Action};
+ghost use Rattle.il_verify.specs.CallRows.{Prefix};
+ghost use Rattle.il_verify.specs.Raises.{Raised, is_outside, numbers_with, raised_at, raises, same_raised};
+ghost use Rattle.il_verify.specs.Raises.{NullReference, IndexOutOfRange};
 ghost use Rattle.il_verify.specs.Raises.{ArrayTypeMismatch, InvalidCast, Overflow, DivideByZero};
+ghost use Rattle.il_code.specs.Reach.{AreReached};
+ghost use Rattle.il_verify.specs.Flow.{AreLeastStacks, reached_offsets};
+ghost use Rattle.il_verify.specs.Scope.{Scope};
+ghost use Rattle.il_verify.specs.Verified.{HasTyping, IsVerified, least_stacks};
+
+/// Rounds find the least stacks of a method's code, and there are no others.
+pub fn least_stacks_by_rounds()
+    ensures { (scope : Scope) (body : Body) (table : List (Option Stack)) →
+        AreLeastStacks scope body table ↔ (table ≡ least_stacks scope body) }
+{}
+
+/// The offsets that verifying goes by are those that control reaches.
+pub fn offsets_reached()
+    ensures { (body : Body) → AreReached body.code body.clauses (reached_offsets body) }
+{}
+
+/// A method is verified exactly where verifying gives a typing.
+pub fn verified_exactly()
+    ensures verified { (world : World) (name : MethodName) (body : Body) →
+        HasTyping world name body → IsVerified world name body }
+    ensures typed { (world : World) (name : MethodName) (body : Body) →
+        IsVerified world name body → HasTyping world name body }
+{}
 
 /// The opcodes that no program here may come to: floats, unmanaged pointers, blocks of memory, typed references, and
 /// calls that go through a pointer or take the frame along.
@@ -13,7 +44,13 @@ pub fn opcodes_outside()
         ∷ 0xFE17 ∷ 0xFE18 ∷ 0xFE19 ∷ 0xFE1D ∷ [] }
 {}
 
-/// The opcodes that raise each exception of the runtime.
+/// Where an operation's token and prefix are known, it raises nothing that its opcode doesn't.
+pub fn raised_by_the_opcode()
+    ensures { (scope : Scope) (prefix : Prefix) (action : Action) (raised : Raised) →
+        IsTrue (list_any (same_raised raised) (raised_at scope prefix action)) → IsTrue (raises raised action) }
+{}
+
+/// The opcodes that raise each exception of the runtime, as far as they tell.
 pub fn opcodes_that_raise()
     // `callvirt`, what goes by a pointer, an object or a vector, `unbox`, `unbox.any` and `throw`
     ensures null { numbers_with (raises NullReference) opcodes ≡ 0x46 ∷ 0x47 ∷ 0x48 ∷ 0x49
@@ -25,7 +62,7 @@ pub fn opcodes_that_raise()
     ensures index { numbers_with (raises IndexOutOfRange) opcodes ≡ 0x8F ∷ 0x90 ∷ 0x91
         ∷ 0x92 ∷ 0x93 ∷ 0x94 ∷ 0x95 ∷ 0x96 ∷ 0x97
         ∷ 0x9A ∷ 0x9B ∷ 0x9C ∷ 0x9D ∷ 0x9E ∷ 0x9F ∷ 0xA2 ∷ 0xA3 ∷ 0xA4 ∷ [] }
-    // `ldelema` and what writes an element
+    // `ldelema` and what writes an element, of whatever type
     ensures mismatch { numbers_with (raises ArrayTypeMismatch) opcodes ≡ 0x8F ∷ 0x9B ∷ 0x9C
         ∷ 0x9D ∷ 0x9E ∷ 0x9F ∷ 0xA2 ∷ 0xA4 ∷ [] }
     // `castclass`, `unbox` and `unbox.any`

@@ -1,0 +1,13 @@
+pub mod Types
+pub mod Slots
+pub mod Effects
+pub mod Flow
+pub mod Bounds
+pub mod SetLaws
+pub mod SlotLaws
+pub mod EffectLaws
+pub mod BoundLaws
+pub mod FlowLaws
+pub mod Rounds
+pub mod Told
+pub mod ToldLaws
