@@ -1,5 +1,6 @@
 -- A program has no place in memory but those of the image, of what it uses of the heap, and of its frames' slots.
-use Rattle.std.proofs.Common.{◌≡◌, ◌∙◌, ◌⊎◌, inl, inr, ap, ◌||◌, length, ℕ, ℤ, pos, zero, suc, ◌+◌, ◌-◌, ◌*◌, ◌%◌, ◌<◌, ◌≤◌, Bool, true, false, not, ◌&&◌, ◌==◌}
+use Rattle.std.proofs.Common.{◌≡◌, ◌∙◌, ◌⊎◌, inl, inr, ap, ◌||◌, length, ℕ, ℤ, pos, zero, suc, ◌+◌, ◌-◌, ◌*◌, ◌%◌, ◌<◌}
+use Rattle.std.proofs.Common.{◌≤◌, Bool, true, false, not, ◌&&◌, ◌==◌}
 use Rattle.std.proofs.Common.{nat_lt, cond, if◌then◌else◌, List, [], ◌∷◌, filter, slice_get, Option, Some, None, refl}
 use Rattle.std.proofs.Common.{sym, subst, arith}
 use Rattle.std.specs.Option.{option_and_then}
@@ -19,10 +20,12 @@ use Rattle.lir_core.specs.Handlers.{goes_on_searching, goes_on_to, goes_through,
 use Rattle.lir_core.specs.Handlers.{is_tried, one_less_above, raises, searches, tests, tried_in, unwinds_from}
 use Rattle.lir_core.specs.Handlers.{unwinds_to}
 use Rattle.lir_core.specs.Owning.{GivesHeap, IsOfHeap, MayOwn, OwnsNoMore, RoutinesGiveHeap, is_of, is_of_body}
-use Rattle.lir_core.specs.Memory.{Cell, FlatMemory, Missing, Unwritten, cells_from, is_own, overwritten, cells_of, copied, number_in, with_cells, zeros}
+use Rattle.lir_core.specs.Memory.{Cell, FlatMemory, Missing, Unwritten, cells_from, is_own, overwritten, cells_of}
+use Rattle.lir_core.specs.Memory.{copied, number_in, with_cells, zeros}
 use Rattle.lir_core.specs.Pieces.{bytes_of_type, of_block, word, words_from}
 use Rattle.lir_core.specs.Program.{EndsProgram, GoesOn, Outcome, RoutineEffect, WordProgram, ends_with, no_step, with}
-use Rattle.lir_core.specs.Slots.{is_of_frame, Here, gives, goes_on_with, goes_to, memory_with, place_here, place_in_frame, place_of}
+use Rattle.lir_core.specs.Slots.{is_of_frame, Here, gives, goes_on_with, goes_to, memory_with, place_here}
+use Rattle.lir_core.specs.Slots.{place_in_frame, place_of}
 use Rattle.lir_core.specs.Slots.{value_in, with_frame, without_frame, word_in, words_in}
 use Rattle.lir_core.specs.State.{ASearch, AnOperation, AnUnwind, Candidate, Catch, Caught, Clause, Entered, Fault}
 use Rattle.lir_core.specs.State.{Finally, ForObject, Frame, Goal, HandlerKind, OnTheWay, Purpose, ToCatch, ToPlace}
@@ -593,7 +596,8 @@ operates_kept program state (frame ∷ below) streams routines all fits =
     kept_with program (program.body_of frame.item) streams
     (λ body. with (slice_get body.ops frame.place) streams (λ op. performs op (here body) streams))
     (λ body is. kept_with program (slice_get body.ops frame.place) streams (λ op. performs op (here body) streams)
-    (λ op is'. performs_kept op (here body) streams (record { all = all; here_on = fits; body = is; routines = routines })))
+    (λ op is'. performs_kept op (here body) streams
+    (record { all = all; here_on = fits; body = is; routines = routines })))
 
 under_way_kept : (program : WordProgram) (state : WordState) (under_way : UnderWay) (streams : Streams)
     → RoutinesGiveHeap program → OwnsNoMore program state.frames state.memory state.heap_used

@@ -23,7 +23,8 @@ IsOfHeap program from upto place = (program.heap_begin + from ≤ place) × (pla
 -- the place is one of the image, of the part of the heap that is used, or of a frame
 abbrev pub MayOwn : WordProgram → List Frame → ℕ → ℕ → Type 0
 MayOwn program frames used place =
-    (is_own (program.image place) ≡ true) ⊎ (IsOfHeap program 0 used place ⊎ (list_any (is_of program place) frames ≡ true))
+    (is_own (program.image place) ≡ true)
+    ⊎ (IsOfHeap program 0 used place ⊎ (list_any (is_of program place) frames ≡ true))
 
 -- a program that has these frames and uses so much of the heap has no other place in memory
 abbrev pub OwnsNoMore : WordProgram → List Frame → FlatMemory → ℕ → Type 0

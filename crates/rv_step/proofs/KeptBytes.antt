@@ -114,9 +114,11 @@ holds_written m new place bytes e small segments holds x byte is =
       | inl apart ↦ holds x byte (sym (kept_at (λ s. s.write) place x bytes m.segments new.segments e apart) ∙ is)
       | inr inside ↦
           let there : byte_in new.segments x ≡ Some (slice_index bytes (x - place)) =
-          written_at (λ s. s.write) place x bytes m.segments new.segments (parted m.segments segments.disjoint) e inside.0
+          written_at (λ s. s.write) place x bytes m.segments new.segments (parted m.segments segments.disjoint) e
+          inside.0
           inside.1 in
-          let same : slice_index bytes (x - place) ≡ byte = some_one (slice_index bytes (x - place)) byte (sym there ∙ is) in
+          let same : slice_index bytes (x - place) ≡ byte =
+          some_one (slice_index bytes (x - place)) byte (sym there ∙ is) in
           subst (λ n. n < 256) same (small_at bytes (x - place) small (omega (arith, inside.0, inside.1)))
     ]
 
@@ -133,7 +135,8 @@ Keeps m before (Ended status streams) = Unit {0}
 Keeps m before (Stopped trap streams) = Unit {0}
 
 -- where the segments are the same, and what is left to read
-same_segments : (m new : MachineState) (before behind : Streams) → new.segments ≡ m.segments → behind.input ≡ before.input
+same_segments : (m new : MachineState) (before behind : Streams) → new.segments ≡ m.segments
+    → behind.input ≡ before.input
     → KeepsBytes m new before behind
 same_segments m new before behind e e' =
     record {
@@ -215,7 +218,8 @@ writes_keep : (m : MachineState) (to : List ℕ → Streams → Streams) (stream
     → Keeps m streams (writes m to streams)
 writes_keep m to streams keeps =
     let there : Option (List ℕ) = bytes_at (λ s. s.read) (register m 11) (register m 12) m.segments in
-    either m streams (register m 12 == 0) (gives m 10 0 streams) (writes_from m to there streams) (same m _ streams refl)
+    either m streams (register m 12 == 0) (gives m 10 0 streams) (writes_from m to there streams)
+    (same m _ streams refl)
     (writes_from_keeps m to there streams keeps)
 
 answers_keep : (r : Request) (m : MachineState) (streams : Streams) → Keeps m streams (answers r m streams)
@@ -298,7 +302,8 @@ effect_keeps (Ins.Remw rd rs1 rs2) m streams = same m _ streams refl
 effect_keeps (Ins.Remuw rd rs1 rs2) m streams = same m _ streams refl
 effect_keeps Ins.Ecall m streams = answers_keep (request (register m 17) (register m 10)) m streams
 
-instruction_keeps : (o : Option Ins) (m : MachineState) (streams : Streams) → Keeps m streams (on_instruction o m streams)
+instruction_keeps : (o : Option Ins) (m : MachineState) (streams : Streams)
+    → Keeps m streams (on_instruction o m streams)
 instruction_keeps None m streams = tt
 instruction_keeps (Some ins) m streams = effect_keeps ins m streams
 

@@ -1,4 +1,5 @@
-//! Laws of memory, for the proofs of the crates above. Each function does nothing, and ensures its laws of all machines.
+//! Laws of memory, for the proofs of the crates above. Each function does nothing, and ensures its laws of all
+//! machines.
 ghost use Rattle.std.specs.Prelude.{◌≡◌, ◌≢◌, ◌↔◌, ℕ, ◌+◌, ◌%◌, ◌^◌, ◌<◌, ◌≤◌, List, ◌++◌, length, take, drop, min};
 ghost use Rattle.std.specs.Prelude.{Some};
 ghost use Rattle.byteorder.specs.Endian.{little_number, little_bytes};
