@@ -38,6 +38,7 @@ counted_more world count =
     (length-map-range_with_len (id_of count) 1 (type_count (tables_at world count)))
 
 pub filtered_more : (test : TypeId → Bool) (world : World) (count : ℕ)
-    → filter test (first_ids world (count + 1)) ≡ filter test (first_ids world count) ++ filter test (ids_of world count)
+    → filter test (first_ids world (count + 1))
+    ≡ filter test (first_ids world count) ++ filter test (ids_of world count)
 filtered_more test world count =
     ap (filter test) (one_module_more world count) ∙ filter-append test (first_ids world count) (ids_of world count)

@@ -58,7 +58,8 @@ vectors_fit left world from to = vector_fits world (fits_within left world) (out
 -- whether a type fits but for its base, by walks over so many types at most
 abbrev pub fits_beside : ℕ → World → Ty → Ty → Result Bool ResolveFault
 fits_beside left world from to =
-    if fits_at_once from to then Ok true else or_then (vectors_fit left world from to) (interfaces_fit left world from to)
+    if fits_at_once from to then Ok true
+    else or_then (vectors_fit left world from to) (interfaces_fit left world from to)
 
 -- the element type of a vector
 abbrev pub element_layer : Ty-F Ty → Option Ty
