@@ -1,15 +1,14 @@
 -- A definition is among the value types of a world exactly where it is one.
 use Rattle.std.proofs.Common.{◌≡◌, ◌∙◌, ◌+◌, ◌-◌, ◌<◌, ◌≤◌, ◌∷◌, ◌&&◌, ◌||◌, [], ℕ, zero, suc, Bool, true, false, cond}
-use Rattle.std.proofs.Common.{List, Option, Some, None, refl, ap, sym, arith, filter, get_or, length, map, nat_eq}
+use Rattle.std.proofs.Common.{List, Option, None, refl, ap, sym, arith, filter, get_or, length, nat_eq}
 use Rattle.std.proofs.Common.{nat_lt}
-use Rattle.std.proofs.Common.{eq-eqb, eqb-true, ltb-true, ltb-false, true≢false, slice_get, take, not, codes}
+use Rattle.std.proofs.Common.{eq-eqb, eqb-true, ltb-true, ltb-false, true≢false, take, not, codes}
 use Rattle.std.proofs.Common.{option_and_then}
 use Rattle.std.proofs.lemmas.List.Folds.{list_any-append, list_any_at, list_any_more}
 use Rattle.std.proofs.lemmas.List.FromFn.{get_or-map-range_with_len, get_or-range_with_len, length-map-range_with_len}
 use Rattle.std.proofs.lemmas.List.FromFn.{length-range_with_len}
 use Rattle.std.proofs.lemmas.Option.{slice_get_past}
 use Rattle.std.specs.List.{flat_map, list_any, range_with_len}
-use Rattle.md_tables.specs.declared.module.Table.{Table}
 use Rattle.md_tables.specs.declared.module.TableRow.{TableRow}
 use Rattle.ty_terms.specs.declared.names.TypeId.{TypeId}
 use Rattle.ty_names.specs.Definitions.{type_count}

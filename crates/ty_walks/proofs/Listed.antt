@@ -1,15 +1,15 @@
 -- The definitions of modules, one after another.
-use Rattle.std.proofs.Common.{◌≡◌, ◌∙◌, ◌+◌, ◌∷◌, ◌++◌, [], ℕ, zero, suc, Bool, List, ap, sym, arith, append-nil, map}
+use Rattle.std.proofs.Common.{◌≡◌, ◌∙◌, ◌+◌, ◌∷◌, ◌++◌, [], ℕ, zero, suc, Bool, List, ap, arith, append-nil}
 use Rattle.std.proofs.Common.{filter, length, length-append}
 use Rattle.std.proofs.lemmas.List.Concat.{flat_map-append}
 use Rattle.std.proofs.lemmas.List.Elements.{filter-append}
-use Rattle.std.proofs.lemmas.List.FromFn.{filter_of_map_range_with_len_more, length-map-range_with_len}
+use Rattle.std.proofs.lemmas.List.FromFn.{length-map-range_with_len}
 use Rattle.std.specs.List.{flat_map, range_with_len}
 use Rattle.ty_terms.specs.declared.names.TypeId.{TypeId}
 use Rattle.ty_names.specs.Modules.{World, tables_at}
 use Rattle.ty_names.specs.Definitions.{type_count}
 use Rattle.ty_names.specs.References.{id_of}
-use Rattle.ty_load.specs.Cycles.{all_ids, ids_of}
+use Rattle.ty_load.specs.Cycles.{ids_of}
 
 range_more : (from count at : ℕ) → from + count ≡ at
     → range_with_len from (count + 1) ≡ range_with_len from count ++ at ∷ []
