@@ -17,7 +17,7 @@ use Rattle.il_verify.specs.Raises.{NullReference}
 use Rattle.il_verify.specs.Scope.{Scope, Callee, callee_of, method_token}
 use Rattle.cil_world.specs.Contents.{box_bytes, class_bytes, object_fields, stored, zero_of}
 use Rattle.cil_world.specs.Did.{Did, Raises, Moves, Triggers, Finishes, Ends, Cannot}
-use Rattle.cil_world.specs.Dispatch.{implementation}
+use Rattle.ty_slots.specs.Implementations.{implementation}
 use Rattle.cil_world.specs.Entering.{Entry, HeapBound, StackBound, Unchecked, entry, has_room, has_stack, may_lay_out}
 use Rattle.cil_world.specs.Entering.{next_object, with_object, triggers, bytes_of_running}
 use Rattle.cil_world.specs.ObjectSteps.{type_of_object, read_at}

@@ -1,0 +1,93 @@
+-- Types that are loaded one after another, and what is found of each.
+use Rattle.std.proofs.Common.{◌≡◌, ◌∙◌, All, Bool, true, false, List, [], ◌∷◌, ◌++◌, Option, Some, None, Result}
+use Rattle.std.proofs.Common.{Ok, Err, refl, sym, ap, subst, append_assoc, find}
+use Rattle.std.proofs.lemmas.List.Elements.{All-nil, All-cons, All-weaker}
+use Rattle.std.specs.Prelude.{cond, unwrap_or}
+use Rattle.std.specs.Option.{option_map}
+use Rattle.std.specs.Ordering.{eq_by_cmp, is_eq}
+use Rattle.std.specs.declared.cmp.Ordering.{Ordering}
+use Rattle.std.specs.declared.cmp.Ordering.TheVariants.{Less, Equal, Greater}
+use Rattle.ty_terms.specs.declared.ty.Ty.{Ty}
+use Rattle.ty_terms.specs.Order.{order}
+use Rattle.ty_layout.specs.Fields.{AreLaid}
+use Rattle.cli_layout.specs.declared.extent.Unlaid.{Unlaid}
+use Rattle.cli_layout.specs.declared.fault.LayoutFault.{LayoutFault}
+use Rattle.cli_layout.specs.declared.rows.Loaded.{Loaded}
+use Rattle.cli_layout.specs.declared.rows.TypeLayout.{TypeLayout}
+use Rattle.cli_layout.specs.Loading.{AreFound, IsLoaded, layout_in, layout_or, loaded_by, why, with_next}
+use Rattle.cli_layout.specs.Types.{bare}
+
+-- those that are loaded, in front of what comes of the others
+abbrev pub in_front : List Loaded → Result (List Loaded) LayoutFault → Result (List Loaded) LayoutFault
+in_front done (Ok rest) = Ok (done ++ rest)
+in_front done (Err fault) = Err fault
+
+pub one_more : (done : List Loaded) (ty : Ty) (layout : TypeLayout) (rest : Result (List Loaded) LayoutFault)
+    → in_front done (with_next ty (Ok layout) rest)
+    ≡ in_front (done ++ (record { ty = ty; layout = layout } ∷ [])) rest
+one_more done ty layout (Ok rest) =
+    ap (λ l. Ok l) (sym (append_assoc done (record { ty = ty; layout = layout } ∷ []) rest))
+one_more done ty layout (Err fault) = refl
+
+-- ---- what is found of each
+
+abbrev pub Finds : (Ty → Result TypeLayout Unlaid) → List Loaded → Ty → Type 0
+Finds lay loaded ty = (layout : TypeLayout) × (layout_in loaded ty ≡ Some layout) × (lay ty ≡ Ok layout)
+
+abbrev entry : Ty → TypeLayout → Loaded
+entry ty layout = record { ty = ty; layout = layout }
+
+-- what is found behind one more in front, by how that compares with the type
+abbrev found_by : Ty → TypeLayout → List Loaded → Ty → Ordering → Option TypeLayout
+found_by ty layout rest other compared =
+    option_map (λ found. found.layout)
+    (cond (is_eq compared) (Some (entry ty layout)) (find (λ found. eq_by_cmp order found.ty other) rest))
+
+module _ (exact : (a b : Ty) → order a b ≡ Equal → a ≡ b) (same : (a : Ty) → order a a ≡ Equal)
+    (lay : Ty → Result TypeLayout Unlaid) where
+  itself : (ty : Ty) (layout : TypeLayout) (rest : List Loaded) → lay ty ≡ Ok layout
+      → Finds lay (entry ty layout ∷ rest) ty
+  itself ty layout rest laid = (layout, ap (found_by ty layout rest ty) (same ty), laid)
+
+  behind : (ty : Ty) (layout : TypeLayout) (rest : List Loaded) (other : Ty) (compared : Ordering)
+      → order ty other ≡ compared → lay ty ≡ Ok layout → Finds lay rest other
+      → Finds lay (entry ty layout ∷ rest) other
+  behind ty layout rest other Equal is laid finds =
+      (layout, ap (found_by ty layout rest other) is, subst (λ t. lay t ≡ Ok layout) (exact ty other is) laid)
+  behind ty layout rest other Less is laid finds =
+      (finds.0, ap (found_by ty layout rest other) is ∙ finds.1.0, finds.1.1)
+  behind ty layout rest other Greater is laid finds =
+      (finds.0, ap (found_by ty layout rest other) is ∙ finds.1.0, finds.1.1)
+
+  next : (ty : Ty) (rest : List Ty) (told : Result TypeLayout Unlaid) (others : Result (List Loaded) LayoutFault)
+      (loaded : List Loaded) → lay ty ≡ told → loaded_by lay rest ≡ others → with_next ty told others ≡ Ok loaded
+      → ((l : List Loaded) → loaded_by lay rest ≡ Ok l → All (Finds lay l) rest) → All (Finds lay loaded) (ty ∷ rest)
+  next ty rest (Err unlaid) others loaded is os e again = absurd (let h : Err (why ty unlaid) ≡ Ok loaded = e in cc)
+  next ty rest (Ok layout) (Err fault) loaded is os e again = absurd (let h : Err fault ≡ Ok loaded = e in cc)
+  next ty rest (Ok layout) (Ok others) loaded is os e again =
+      let h : Ok (entry ty layout ∷ others) ≡ Ok loaded = e in
+      let all : List Loaded = entry ty layout ∷ others in
+      let l : all ≡ loaded = cc in
+      subst (λ l. All (Finds lay l) (ty ∷ rest)) l
+      (All-cons (Finds lay all) ty rest (itself ty layout others is)
+      (All-weaker (Finds lay others) (Finds lay all)
+      (λ other finds. behind ty layout others other (order ty other) refl is finds) rest (again others os)))
+
+  pub finds_all : (types : List Ty) (loaded : List Loaded) → loaded_by lay types ≡ Ok loaded
+      → All (Finds lay loaded) types
+  finds_all [] loaded is = All-nil (Finds lay loaded)
+  finds_all (ty ∷ rest) loaded is =
+      next ty rest (lay ty) (loaded_by lay rest) loaded refl refl is (λ l e. finds_all rest l e)
+
+pub are_found : (lay : Ty → Result TypeLayout Unlaid) (loaded : List Loaded) (types : List Ty)
+    → All (Finds lay loaded) types → AreFound lay loaded types
+are_found lay loaded types finds =
+    All-weaker (Finds lay loaded) (λ ty. lay ty ≡ Ok (layout_or loaded ty))
+    (λ ty f. f.1.1 ∙ ap (λ l. Ok l) (sym (ap (λ found. unwrap_or found (bare 0)) f.1.0))) types finds
+
+pub are_loaded : (lay : Ty → Result TypeLayout Unlaid) (loaded : List Loaded) (types : List Ty)
+    → ((ty : Ty) (layout : TypeLayout) → lay ty ≡ Ok layout → AreLaid layout.fields layout.laid)
+    → All (Finds lay loaded) types → All (IsLoaded loaded) types
+are_loaded lay loaded types laid finds =
+    All-weaker (Finds lay loaded) (IsLoaded loaded)
+    (λ ty f. record { layout = f.0; found = f.1.0; laid = laid ty f.0 f.1.1 }) types finds

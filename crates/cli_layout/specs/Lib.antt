@@ -1,0 +1,6 @@
+pub mod Fields
+pub mod Told
+pub mod Extents
+pub mod Types
+pub mod Loading
+pub mod Laws
