@@ -103,6 +103,7 @@ module _ (object_laid : (parts : List (List Field)) → AreLaid (flat_map (λ pa
   of_layer world ty Ty-F.Canon = told (bare 8) (if_bare 8)
 
   pub of_type : (world : World) (ty : Ty) → IfLaid (laid_of world ty)
+  unfolding laid_of
   of_type world ty = of_layer world ty (out-Ty ty)
 
   of_statics_in : (world : World) (ty : Ty) (id : Option TypeId) → IfLaid (statics_in world ty id)
@@ -112,4 +113,5 @@ module _ (object_laid : (parts : List (List Field)) → AreLaid (flat_map (λ pa
       (λ fields. object_laid (fields ∷ []))
 
   pub of_statics : (world : World) (ty : Ty) → IfLaid (statics_of world ty)
+  unfolding statics_of
   of_statics world ty = of_statics_in world ty (definition_of world ty)

@@ -1,3 +1,5 @@
 pub mod Gathering
+pub mod ExtentLaws
+pub mod PartLaws
 pub mod Loads
 pub mod LaidTypes

@@ -1,7 +1,7 @@
 -- Types that are loaded one after another, and what is found of each.
 use Rattle.std.proofs.Common.{◌≡◌, ◌∙◌, All, Bool, true, false, List, [], ◌∷◌, ◌++◌, Option, Some, None, Result}
 use Rattle.std.proofs.Common.{Ok, Err, refl, sym, ap, subst, append_assoc, find}
-use Rattle.std.proofs.lemmas.List.Elements.{All-nil, All-cons, All-weaker}
+use Rattle.std.proofs.lemmas.List.Elements.{All-nil, All-cons, All-head, All-tail, All-weaker}
 use Rattle.std.specs.Prelude.{cond, unwrap_or}
 use Rattle.std.specs.Option.{option_map}
 use Rattle.std.specs.Ordering.{eq_by_cmp, is_eq}
@@ -14,7 +14,7 @@ use Rattle.cli_layout.specs.declared.extent.Unlaid.{Unlaid}
 use Rattle.cli_layout.specs.declared.fault.LayoutFault.{LayoutFault}
 use Rattle.cli_layout.specs.declared.rows.Loaded.{Loaded}
 use Rattle.cli_layout.specs.declared.rows.TypeLayout.{TypeLayout}
-use Rattle.cli_layout.specs.Loading.{AreFound, IsLoaded, layout_in, layout_or, loaded_by, why, with_next}
+use Rattle.cli_layout.specs.Loading.{AreFound, IsLoaded, IsSmall, IsSmallOne, layout_in, layout_or, loaded_by, why, with_next}
 use Rattle.cli_layout.specs.Types.{bare}
 
 -- those that are loaded, in front of what comes of the others
@@ -55,9 +55,9 @@ module _ (exact : (a b : Ty) → order a b ≡ Equal → a ≡ b) (same : (a : T
   behind ty layout rest other Equal is laid finds =
       (layout, ap (found_by ty layout rest other) is, subst (λ t. lay t ≡ Ok layout) (exact ty other is) laid)
   behind ty layout rest other Less is laid finds =
-      (finds.0, ap (found_by ty layout rest other) is ∙ finds.1.0, finds.1.1)
+      (finds.0, ap (found_by ty layout rest other) is ∙ finds.1, finds.2)
   behind ty layout rest other Greater is laid finds =
-      (finds.0, ap (found_by ty layout rest other) is ∙ finds.1.0, finds.1.1)
+      (finds.0, ap (found_by ty layout rest other) is ∙ finds.1, finds.2)
 
   next : (ty : Ty) (rest : List Ty) (told : Result TypeLayout Unlaid) (others : Result (List Loaded) LayoutFault)
       (loaded : List Loaded) → lay ty ≡ told → loaded_by lay rest ≡ others → with_next ty told others ≡ Ok loaded
@@ -83,11 +83,28 @@ pub are_found : (lay : Ty → Result TypeLayout Unlaid) (loaded : List Loaded) (
     → All (Finds lay loaded) types → AreFound lay loaded types
 are_found lay loaded types finds =
     All-weaker (Finds lay loaded) (λ ty. lay ty ≡ Ok (layout_or loaded ty))
-    (λ ty f. f.1.1 ∙ ap (λ l. Ok l) (sym (ap (λ found. unwrap_or found (bare 0)) f.1.0))) types finds
+    (λ ty f. f.2 ∙ ap (λ l. Ok l) (sym (ap (λ found. unwrap_or found (bare 0)) f.1))) types finds
+
+-- what is found is one of those that are loaded
+small_if : (one : Loaded) (rest : List Loaded) (ty : Ty) (layout : TypeLayout) (same : Bool)
+    → option_map (λ found. found.layout) (cond same (Some one) (find (λ found. eq_by_cmp order found.ty ty) rest))
+    ≡ Some layout → IsSmallOne one → (layout_in rest ty ≡ Some layout → IsSmall layout) → IsSmall layout
+small_if one rest ty layout true is small next =
+    subst IsSmall (let h : Some one.layout ≡ Some layout = is in cc) small
+small_if one rest ty layout false is small next = next is
+
+small_found : (loaded : List Loaded) (ty : Ty) (layout : TypeLayout) → All IsSmallOne loaded
+    → layout_in loaded ty ≡ Some layout → IsSmall layout
+small_found [] ty layout small is = absurd (let h : None ≡ Some layout = is in cc)
+small_found (one ∷ rest) ty layout small is =
+    small_if one rest ty layout (eq_by_cmp order one.ty ty) is (All-head IsSmallOne one rest small)
+    (λ e. small_found rest ty layout (All-tail IsSmallOne one rest small) e)
 
 pub are_loaded : (lay : Ty → Result TypeLayout Unlaid) (loaded : List Loaded) (types : List Ty)
     → ((ty : Ty) (layout : TypeLayout) → lay ty ≡ Ok layout → AreLaid layout.fields layout.laid)
-    → All (Finds lay loaded) types → All (IsLoaded loaded) types
-are_loaded lay loaded types laid finds =
+    → All IsSmallOne loaded → All (Finds lay loaded) types → All (IsLoaded loaded) types
+are_loaded lay loaded types laid small finds =
     All-weaker (Finds lay loaded) (IsLoaded loaded)
-    (λ ty f. record { layout = f.0; found = f.1.0; laid = laid ty f.0 f.1.1 }) types finds
+    (λ ty f. record {
+      layout = f.0; found = f.1; laid = laid ty f.0 f.2; small = small_found loaded ty f.0 small f.1
+    }) types finds

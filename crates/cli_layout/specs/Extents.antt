@@ -111,7 +111,7 @@ rows_extents extent id fields = map (row_extent extent id) fields
 
 -- of a type, in a definition whose arguments have these extents
 abbrev pub extent_by : (TypeId → List Extent → Extent) → World → List Extent → Ty → Extent
-extent_by value world env ty = fold-Ty Extent (extent_step value world env) ty
+extent_by value world env = fold-Ty Extent (extent_step value world env)
 
 -- a value type by its definition and the extents of its arguments, over so many definitions at most
 abbrev pub value_within : ℕ → World → TypeId → List Extent → Extent
@@ -121,14 +121,14 @@ value_within (suc left) world id env =
     (all_known (rows_extents (extent_by (value_within left world) world env) id (placed_fields world id)))
 
 abbrev pub extent_in : ℕ → World → List Extent → Ty → Extent
-extent_in left world env ty = extent_by (value_within left world) world env ty
+extent_in left world env = extent_by (value_within left world) world env
 
 -- No value type lies within itself, so within one are no more definitions than the world has.
 abbrev pub most_within : World → ℕ
 most_within world = length (all_ids world)
 
 abbrev pub extent_with : World → List Extent → Ty → Extent
-extent_with world env ty = extent_in (most_within world) world env ty
+extent_with world env = extent_in (most_within world) world env
 
 -- of a place of a type: how many bytes it takes and where it may begin, or why that isn't known
 unfoldable pub extent_of : World → Ty → Extent

@@ -1,6 +1,6 @@
 -- The fields of a type that is loaded lie apart, aligned and within it.
 use Rattle.std.proofs.Common.{◌≡◌, ◌≢◌, ◌⊎◌, ℕ, ◌+◌, ◌%◌, ◌<◌, ◌≤◌, List, length, Some, inl, inr, sym, ap, subst}
-use Rattle.std.proofs.Common.{arith}
+use Rattle.std.proofs.lemmas.Bool.{cases_order}
 use Rattle.std.proofs.lemmas.Option.{slice_get-get_or}
 use Rattle.std.specs.Prelude.{slice_get, slice_index_or, unwrap_or}
 use Rattle.ty_terms.specs.declared.ty.Ty.{Ty}
@@ -31,14 +31,16 @@ module _ (layout : TypeLayout) (laid : AreLaid layout.fields layout.laid) where
       laid.in_order i j (field_at layout i) (field_at layout j) (place_at layout i) (place_at layout j) (has_field i hi)
       (has_place i hi) (has_field j hj) (has_place j hj) less
 
-  apart_if : (i j : ℕ) → i < length layout.fields → j < length layout.fields → (i < j) ⊎ (j < i)
+  apart_if : (i j : ℕ) → i < length layout.fields → j < length layout.fields → i ≢ j
+      → (i ≡ j) ⊎ ((i < j) ⊎ (j < i))
       → AreApart (place_at layout i) (field_at layout i).size (place_at layout j) (field_at layout j).size
-  apart_if i j hi hj (inl less) = inl (in_order i j hi hj less)
-  apart_if i j hi hj (inr more) = inr (in_order j i hj hi more)
+  apart_if i j hi hj other (inl same) = absurd (other same)
+  apart_if i j hi hj other (inr (inl less)) = inl (in_order i j hi hj less)
+  apart_if i j hi hj other (inr (inr more)) = inr (in_order j i hj hi more)
 
   pub apart : (i j : ℕ) → i < length layout.fields → j < length layout.fields → i ≢ j
       → AreApart (place_at layout i) (field_at layout i).size (place_at layout j) (field_at layout j).size
-  apart i j hi hj other = apart_if i j hi hj (omega arith)
+  apart i j hi hj other = apart_if i j hi hj other (cases_order i j)
 
   pub aligned_at : (i : ℕ) → i < length layout.fields → place_at layout i % bytes_of (field_at layout i).alignment ≡ 0
   aligned_at i h = laid.aligned i (field_at layout i) (place_at layout i) (has_field i h) (has_place i h)

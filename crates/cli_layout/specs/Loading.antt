@@ -14,15 +14,11 @@ use Rattle.cli_layout.specs.declared.extent.Unlaid.TheVariants.{TooLarge, NoBase
 use Rattle.cli_layout.specs.declared.fault.Fault.{Fault}
 use Rattle.cli_layout.specs.declared.fault.LayoutFault.{LayoutFault}
 use Rattle.cli_layout.specs.declared.fault.LayoutFault.TheVariants as faults
+use Rattle.cli_layout.specs.declared.loading.CliLayout.{CliLayout}
 use Rattle.cli_layout.specs.declared.rows.Loaded.{Loaded}
 use Rattle.cli_layout.specs.declared.rows.TypeLayout.{TypeLayout}
 use Rattle.cli_layout.specs.Extents.{reference}
 use Rattle.cli_layout.specs.Types.{bare, laid_of, statics_of}
-
--- types with the layouts of their objects or values, and types with those of their statics
-pub record LoadedTypes : Type 0 where
-  pub types : List Loaded
-  pub statics : List Loaded
 
 -- ---- what is loaded, or the first fault
 
@@ -42,13 +38,13 @@ loaded_by lay [] = Ok []
 loaded_by lay (ty ∷ rest) = with_next ty (lay ty) (loaded_by lay rest)
 
 abbrev pub with_statics : Result (List Loaded) LayoutFault → Result (List Loaded) LayoutFault
-    → Result LoadedTypes LayoutFault
+    → Result CliLayout LayoutFault
 with_statics (Err fault) statics = Err fault
 with_statics (Ok types) (Err fault) = Err fault
 with_statics (Ok types) (Ok statics) = Ok (record { types = types; statics = statics })
 
 -- The layouts of some types and of the statics of others. The first of them that isn't laid out is the fault.
-unfoldable pub loaded : World → List Ty → List Ty → Result LoadedTypes LayoutFault
+unfoldable pub loaded : World → List Ty → List Ty → Result CliLayout LayoutFault
 loaded world types statics =
     with_statics (loaded_by (laid_of world) types) (loaded_by (statics_of world) statics)
 
@@ -69,19 +65,23 @@ Says ty Fault.Memory fault = fault ≡ faults.Memory
 abbrev pub layout_in : List Loaded → Ty → Option TypeLayout
 layout_in types ty = option_map (λ found. found.layout) (find (λ found. eq_by_cmp order found.ty ty) types)
 
--- as large as an object may be, and with few enough fields for numbers of 32 bits
-pub record IsSmall (loaded : Loaded) : Type 0 where
-  pub size : loaded.layout.laid.size ≤ 65536
-  pub count : length loaded.layout.fields < 2 ^ 32
-
 abbrev pub layout_or : List Loaded → Ty → TypeLayout
 layout_or types ty = unwrap_or (layout_in types ty) (bare 0)
 
--- a type is loaded, and its fields lie apart, aligned and within it
+-- as large as an object may be, and with few enough fields for numbers of 32 bits
+pub record IsSmall (layout : TypeLayout) : Type 0 where
+  pub size : layout.laid.size ≤ 65536
+  pub count : length layout.fields < 2 ^ 32
+
+abbrev pub IsSmallOne : Loaded → Type 0
+IsSmallOne loaded = IsSmall loaded.layout
+
+-- A type is loaded: its layout is small, and its fields lie apart, aligned and within it.
 pub record IsLoaded (types : List Loaded) (ty : Ty) : Type 0 where
   pub layout : TypeLayout
   pub found : layout_in types ty ≡ Some layout
   pub laid : AreLaid layout.fields layout.laid
+  pub small : IsSmall layout
 
 abbrev pub field_or : List Loaded → Ty → ℕ → Field
 field_or types ty n = slice_index_or (layout_or types ty).fields n reference

@@ -4,14 +4,19 @@ use num_core::Memory;
 use ty_terms::{Ty, TypeId};
 
 /// Why something isn't laid out, or want of memory.
-#[derive(Clone, Copy, Debug, PartialEq, Eq)]
+#[derive(Clone, Copy, Debug)]
 pub(crate) enum Fault {
     Not(Unlaid),
     Memory,
 }
 
 impl From<Memory> for Fault {
-    fn from(_: Memory) -> Fault {
+    ghost use Rattle.std.specs.Prelude.{◌≡◌};
+    ghost use Rattle.cli_layout.specs.declared.fault.Fault.TheVariants as faults;
+
+    ghost from_gives = { λ _ fault. fault ≡ faults.Memory };
+
+    fn from(_memory: Memory) -> Fault {
         Fault::Memory
     }
 }
@@ -31,7 +36,12 @@ pub enum LayoutFault {
 }
 
 impl From<Memory> for LayoutFault {
-    fn from(_: Memory) -> LayoutFault {
+    ghost use Rattle.std.specs.Prelude.{◌≡◌};
+    ghost use Rattle.cli_layout.specs.declared.fault.LayoutFault.TheVariants as faults;
+
+    ghost from_gives = { λ _ fault. fault ≡ faults.Memory };
+
+    fn from(_memory: Memory) -> LayoutFault {
         LayoutFault::Memory
     }
 }

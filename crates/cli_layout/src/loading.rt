@@ -1,7 +1,7 @@
 //! The layouts of types that are loaded.
-ghost use Rattle.std.specs.Prelude.{◌≡◌, ◌<◌, ◌≤◌, ◌++◌, ◌∷◌, [], All, IfOk, IfSome, OnOk, length, option_copied, ◌^◌};
+ghost use Rattle.std.specs.Prelude.{◌≡◌, ◌<◌, ◌≤◌, ◌++◌, ◌∷◌, [], All, IfOk, OnOk, length, option_copied};
 ghost use Rattle.cli_layout.specs.Loading as loading;
-ghost use Rattle.cli_layout.specs.Loading.{AreFound, Gives, IsLoaded, IsSmall, Says, layout_in, layout_or};
+ghost use Rattle.cli_layout.specs.Loading.{AreFound, Gives, IsLoaded, IsSmallOne, Says, layout_in, layout_or};
 ghost use Rattle.cli_layout.specs.Types.{laid_of as laid_in, statics_of as statics_in};
 
 use crate::definitions::Definitions;
@@ -12,28 +12,18 @@ use crate::objects::{laid_of, statics_of};
 use crate::rows::{Loaded, TypeLayout};
 use num_core::{List, Memory};
 use std::alloc::Global;
-use std::marker::Model;
 use ty_layout::Layout;
 use ty_layout::laws::fields_are_apart;
 use ty_terms::Ty;
-use ty_terms::laws::type_order;
+use ty_terms::type_order;
 
 /// The layouts of types, and of the statics of types, which are loaded once.
 #[derive(Debug, Drop)]
 pub struct CliLayout {
-    types: List<Loaded>,
-    statics: List<Loaded>,
-}
-
-impl Model for CliLayout {
-    ghost use Rattle.std.specs.Prelude.{All};
-    ghost use Rattle.cli_layout.specs.Loading.{IsSmall, LoadedTypes};
-
-    ghost Value = { LoadedTypes };
-
-    ghost view = { λ layout. record { types = layout.types; statics = layout.statics } };
-
-    ghost invariant = { λ layout. All IsSmall layout.types × All IsSmall layout.statics };
+    /// Types with the layouts of their objects or values.
+    pub types: List<Loaded>,
+    /// Types with the layouts of their statics.
+    pub statics: List<Loaded>,
 }
 
 /// Why a type isn't loaded.
@@ -53,10 +43,10 @@ fn why(alloc: Global, ty: &Ty, fault: Fault) -> LayoutFault
 
 /// Adds a type with its layout to those that are loaded.
 fn note(loaded: &mut List<Loaded>, alloc: Global, ty: &Ty, layout: TypeLayout) -> Result<(), Memory>
-    requires small { All IsSmall loaded.old }
+    requires small { All IsSmallOne loaded.old }
     requires size { layout.laid.size ≤ 65536 }
     ensures added { OnOk result (loaded.new ≡ loaded.old ++ record { ty = ty.now; layout = layout } ∷ []) }
-    ensures small { All IsSmall loaded.new }
+    ensures small { All IsSmallOne loaded.new }
 {
     if layout.fields.len() > u32::MAX as usize {
         return Err(Memory);
@@ -72,7 +62,7 @@ fn load_types<D: Definitions>(
     types: &[Ty],
 ) -> Result<List<Loaded>, LayoutFault>
     ensures told { Gives (loading.loaded_by (laid_in (D.world definitions.now)) types.now) result }
-    ensures small { IfOk result (All IsSmall) }
+    ensures small { IfOk result (All IsSmallOne) }
 {
     let mut loaded = List::new(alloc);
     for ty in types {
@@ -91,7 +81,7 @@ fn load_statics<D: Definitions>(
     types: &[Ty],
 ) -> Result<List<Loaded>, LayoutFault>
     ensures told { Gives (loading.loaded_by (statics_in (D.world definitions.now)) types.now) result }
-    ensures small { IfOk result (All IsSmall) }
+    ensures small { IfOk result (All IsSmallOne) }
 {
     let mut loaded = List::new(alloc);
     for ty in types {
@@ -105,10 +95,7 @@ fn load_statics<D: Definitions>(
 
 /// The layout of a type, if it is loaded.
 fn layout_of<'a>(loaded: &'a [Loaded], ty: &Ty) -> Option<&'a TypeLayout>
-    requires { All IsSmall loaded.now }
-    ensures found { option_copied result ≡ layout_in loaded.now ty.now }
-    ensures size { IfSome result (λ layout. layout.now.laid.size ≤ 65536) }
-    ensures count { IfSome result (λ layout. length layout.now.fields < 2 ^ 32) }
+    ensures { option_copied result ≡ layout_in loaded.now ty.now }
 {
     for found in loaded {
         if found.ty == *ty {
@@ -120,7 +107,7 @@ fn layout_of<'a>(loaded: &'a [Loaded], ty: &Ty) -> Option<&'a TypeLayout>
 
 /// How many bytes a type has that is loaded.
 fn size_of(loaded: &[Loaded], ty: &Ty) -> u32
-    requires { All IsSmall loaded.now }
+    requires { IsLoaded loaded.now ty.now }
     ensures size { result ≡ (layout_or loaded.now ty.now).laid.size }
     ensures limit { result ≤ 65536 }
 {
@@ -132,7 +119,6 @@ fn size_of(loaded: &[Loaded], ty: &Ty) -> u32
 
 /// Where a field of a type lies that is loaded.
 fn place_of(loaded: &[Loaded], ty: &Ty, field: u32) -> u32
-    requires { All IsSmall loaded.now }
     ensures { result ≡ loading.place_or loaded.now ty.now field }
 {
     match layout_of(loaded, ty) {

@@ -62,7 +62,9 @@ fn parts<D: Definitions>(
             parts_above(definitions, alloc, left - 1, id, env)?;
             Err(Fault::Not(Unlaid::TooLarge))
         }
-        Err(fault) => Err(fault),
+        Err(Fault::Not(Unlaid::NoBase(id))) => Err(Fault::Not(Unlaid::NoBase(id))),
+        Err(Fault::Not(Unlaid::NoField(id, row))) => Err(Fault::Not(Unlaid::NoField(id, row))),
+        Err(Fault::Memory) => Err(Fault::Memory),
     }
 }
 
