@@ -1,7 +1,7 @@
 -- The parts of an object, class by class.
-use Rattle.std.proofs.Common.{◌≡◌, ◌∙◌, ℕ, suc, List, [], ◌∷◌, ◌++◌, Option, Some, None, Result, Ok, Err, map, refl}
+use Rattle.std.proofs.Common.{◌≡◌, ◌∙◌, ℕ, zero, suc, ◌-◌, Bool, true, false, arith, List, [], ◌∷◌, ◌++◌, Option, Some, None, Result, Ok, Err, map, refl}
 use Rattle.std.proofs.Common.{sym, ap, ap₂, subst}
-use Rattle.std.specs.Prelude.{IfOk}
+use Rattle.std.specs.Prelude.{◌==◌}
 use Rattle.std.specs.Option.{option_map_or}
 use Rattle.ty_terms.specs.declared.names.TypeId.{TypeId}
 use Rattle.ty_terms.specs.declared.ty.Ty.{Ty}
@@ -15,53 +15,100 @@ use Rattle.cli_layout.specs.declared.extent.Unlaid.{Unlaid}
 use Rattle.cli_layout.specs.declared.extent.Unlaid.TheVariants.{TooLarge, NoBase, NoField}
 use Rattle.cli_layout.specs.declared.fault.Fault.{Fault}
 use Rattle.cli_layout.specs.declared.fault.Fault.TheVariants.{Not, Memory}
+use Rattle.cli_layout.specs.declared.rows.FieldRow.{FieldRow}
 use Rattle.cli_layout.specs.declared.rows.Base.{Base}
 use Rattle.cli_layout.specs.declared.rows.Base.TheVariants.{Nothing, Of, Missing}
+use Rattle.cli_layout.specs.declared.rows.TypeLayout.{TypeLayout}
 use Rattle.cli_layout.specs.Extents.{both, extent_with}
 use Rattle.cli_layout.specs.Fields.{placed_fields}
 use Rattle.cli_layout.specs.Told.{Tells, told_base}
-use Rattle.cli_layout.specs.Types.{fields_in, parts_above, parts_over, parts_within, under}
+use Rattle.cli_layout.specs.Types.{fields_in, laid_if, parts_above, parts_over, parts_within, under, within}
 
 abbrev Parts : Type 0
 Parts = List (List Field)
 
 -- ---- a class and those above it
 
-module _ (left k : ℕ) (world : World) (id : TypeId) (env : List Extent) (is : left ≡ suc k) where
-  whole : (result : Result Parts Fault)
-      → Tells (both under (fields_in world env id (placed_fields world id)) (parts_over k world env id)) result
-      → Tells (parts_within left world id env) result
-  whole result told = subst (λ n. Tells (parts_within n world id env) result) (sym is) told
+pub positive : (n : ℕ) → (n == 0) ≡ false → n ≡ suc (n - 1)
+positive zero is = absurd (let h : true ≡ false = is in cc)
+positive (suc n) is = omega arith
 
+-- what is told of a class's own fields, and of the classes above it
+module _ (left k : ℕ) (world : World) (id : TypeId) (env : List Extent) (rows : List FieldRow)
+    (found : Result (List Field) Fault) (above : Result Parts Fault) (is : left ≡ suc k)
+    (same : rows ≡ placed_fields world id) (told : Tells (fields_in world env id rows) found)
+    (above_told : Tells (parts_over k world env id) above) where
   abbrev own : Result (List Field) Unlaid
-  own = fields_in world env id (placed_fields world id)
+  own = fields_in world env id rows
 
   abbrev over : Result Parts Unlaid
   over = parts_over k world env id
 
-  pub with_part : (part : List Field) (parts : Parts) → own ≡ Ok part → over ≡ Ok parts
-      → parts_within left world id env ≡ Ok (parts ++ (part ∷ []))
-  with_part part parts o a = whole (Ok (parts ++ (part ∷ []))) (ap₂ (both under) o a)
+  whole : (result : Result Parts Fault) → Tells (both under own over) result
+      → Tells (parts_within left world id env) result
+  whole result t =
+      subst (λ n. Tells (parts_within n world id env) result) (sym is)
+      (subst (λ l. Tells (both under (fields_in world env id l) over) result) same t)
 
-  pub with_fault : (part : List Field) (fault : Fault) → own ≡ Ok part → Tells over (Err fault)
+  own_is : (answer : Result (List Field) Fault) → found ≡ answer → Tells own answer
+  own_is answer e = subst (λ r. Tells own r) e told
+
+  over_is : (answer : Result Parts Fault) → above ≡ answer → Tells over answer
+  over_is answer e = subst (λ r. Tells over r) e above_told
+
+  pub with_part : (part : List Field) (parts result : Parts) → found ≡ Ok part → above ≡ Ok parts
+      → result ≡ parts ++ (part ∷ []) → parts_within left world id env ≡ Ok result
+  with_part part parts result o a r =
+      subst (λ l. parts_within left world id env ≡ Ok l) (sym r)
+      (whole (Ok (parts ++ (part ∷ []))) (ap₂ (both under) (own_is (Ok part) o) (over_is (Ok parts) a)))
+
+  failed : (part : List Field) (fault : Fault) → found ≡ Ok part → above ≡ Err fault
       → Tells (parts_within left world id env) (Err fault)
-  with_fault part (Not unlaid) o a = whole (Err (Not unlaid)) (ap₂ (both under) o a)
-  with_fault part Memory o a = tt
+  failed part (Not unlaid) o a =
+      whole (Err (Not unlaid)) (ap₂ (both under) (own_is (Ok part) o) (over_is (Err (Not unlaid)) a))
+  failed part Memory o a = tt
 
-  pub large_with_fault : (fault : Fault) → own ≡ Err TooLarge → Tells over (Err fault)
+  pub with_fault : (part : List Field) (fault : Fault) (result : Result Parts Fault) → found ≡ Ok part
+      → above ≡ Err fault → result ≡ Err fault → Tells (parts_within left world id env) result
+  with_fault part fault result o a r =
+      subst (λ e. Tells (parts_within left world id env) e) (sym r) (failed part fault o a)
+
+  large_failed : (fault : Fault) → found ≡ Err (Not TooLarge) → above ≡ Err fault
       → Tells (parts_within left world id env) (Err fault)
-  large_with_fault (Not unlaid) o a = whole (Err (Not unlaid)) (ap₂ (both under) o a)
-  large_with_fault Memory o a = tt
+  large_failed (Not unlaid) o a =
+      whole (Err (Not unlaid)) (ap₂ (both under) (own_is (Err (Not TooLarge)) o) (over_is (Err (Not unlaid)) a))
+  large_failed Memory o a = tt
 
-  pub large : (parts : Parts) → own ≡ Err TooLarge → over ≡ Ok parts → parts_within left world id env ≡ Err TooLarge
-  large parts o a = whole (Err (Not TooLarge)) (ap₂ (both under) o a)
+  pub large_with_fault : (fault : Fault) (result : Result Parts Fault) → found ≡ Err (Not TooLarge)
+      → above ≡ Err fault → result ≡ Err fault → Tells (parts_within left world id env) result
+  large_with_fault fault result o a r =
+      subst (λ e. Tells (parts_within left world id env) e) (sym r) (large_failed fault o a)
 
-  pub no_base : (other : TypeId) → own ≡ Err (NoBase other) → parts_within left world id env ≡ Err (NoBase other)
-  no_base other o = whole (Err (Not (NoBase other))) (ap (λ r. both under r over) o)
+  pub large : (parts : Parts) → found ≡ Err (Not TooLarge) → above ≡ Ok parts
+      → parts_within left world id env ≡ Err TooLarge
+  large parts o a =
+      whole (Err (Not TooLarge)) (ap₂ (both under) (own_is (Err (Not TooLarge)) o) (over_is (Ok parts) a))
 
-  pub no_field : (other : TypeId) (row : ℕ) → own ≡ Err (NoField other row)
+-- what is told of a class's own fields alone
+module _ (left k : ℕ) (world : World) (id : TypeId) (env : List Extent) (rows : List FieldRow)
+    (found : Result (List Field) Fault) (is : left ≡ suc k) (same : rows ≡ placed_fields world id)
+    (told : Tells (fields_in world env id rows) found) where
+  alone : (unlaid : Unlaid) → both under (Err unlaid) (parts_over k world env id) ≡ Err unlaid
+      → found ≡ Err (Not unlaid) → parts_within left world id env ≡ Err unlaid
+  alone unlaid stays o =
+      ap (λ n. parts_within n world id env) is
+      ∙ ap (λ l. both under (fields_in world env id l) (parts_over k world env id)) (sym same)
+      ∙ ap (λ r. both under r (parts_over k world env id))
+      (subst (λ r. Tells (fields_in world env id rows) r) o told)
+      ∙ stays
+
+  pub no_base : (other : TypeId) → found ≡ Err (Not (NoBase other))
+      → parts_within left world id env ≡ Err (NoBase other)
+  no_base other = alone (NoBase other) refl
+
+  pub no_field : (other : TypeId) (row : ℕ) → found ≡ Err (Not (NoField other row))
       → parts_within left world id env ≡ Err (NoField other row)
-  no_field other row o = whole (Err (Not (NoField other row))) (ap (λ r. both under r over) o)
+  no_field other row = alone (NoField other row) refl
 
 -- ---- what is above a definition
 
@@ -94,20 +141,51 @@ module _ (left : ℕ) (world : World) (env : List Extent) (id : TypeId) where
       ap (λ t. option_map_or (λ above. parts_within left world above (map (extent_with world env) (arguments t)))
       (definition_of world t) (Ok [])) (let h : Of base ≡ Of ty = is in let e : base ≡ ty = cc in e)
 
-  pub undefined : (ty : Ty) → told_base (base_by world id) ≡ Of ty → None ≡ definition_of world ty
+  pub undefined : (ty : Ty) → told_base (base_by world id) ≡ Of ty → definition_of world ty ≡ None
       → parts_over left world env id ≡ Ok []
   undefined ty is none =
       of_by (base_by world id) ty is
       ∙ ap (λ d. option_map_or (λ above. parts_within left world above (map (extent_with world env) (arguments ty))) d
-      (Ok [])) (sym none)
+      (Ok [])) none
 
   pub defined : (ty : Ty) (above : TypeId) (args : List Extent) (result : Result Parts Fault)
-      → told_base (base_by world id) ≡ Of ty → Some above ≡ definition_of world ty
+      → told_base (base_by world id) ≡ Of ty → definition_of world ty ≡ Some above
       → args ≡ map (extent_with world env) (arguments ty) → Tells (parts_within left world above args) result
       → Tells (parts_over left world env id) result
   defined ty above args result is some same told =
       subst (λ r. Tells r result)
       (ap (parts_within left world above) same
       ∙ ap (λ d. option_map_or (λ a. parts_within left world a (map (extent_with world env) (arguments ty))) d (Ok []))
-      some
+      (sym some)
       ∙ sym (of_by (base_by world id) ty is)) told
+
+-- ---- a type by its parts
+
+laid_err : {A : Type 0} (in_object : ℕ → ℕ) (lay : A → TypeLayout) (parts : Result A Unlaid) (fault : Fault)
+    → Tells parts (Err fault) → Tells (laid_if in_object lay parts) (Err fault)
+laid_err in_object lay parts (Not unlaid) told = ap (laid_if in_object lay) told
+laid_err in_object lay parts Memory told = tt
+
+-- fields that aren't laid, and those that are
+module _ (in_object : ℕ → ℕ) (lay : List Field → TypeLayout) (world : World) (env args : List Extent) (id : TypeId)
+    (rows fields : List FieldRow) (found : Result (List Field) Fault) (same : args ≡ env) (same_rows : rows ≡ fields)
+    (told : Tells (fields_in world args id rows) found) where
+  abbrev laid : Result TypeLayout Unlaid
+  laid = laid_if in_object lay (fields_in world env id fields)
+
+  moved : Tells (fields_in world env id fields) found
+  moved = subst (λ l. Tells (fields_in world env id l) found) same_rows
+      (subst (λ e. Tells (fields_in world e id rows) found) same told)
+
+  pub not_laid : (fault : Fault) (result : Result TypeLayout Fault) → found ≡ Err fault → result ≡ Err fault
+      → Tells laid result
+  not_laid fault result o r =
+      subst (λ e. Tells laid e) (sym r)
+      (laid_err in_object lay (fields_in world env id fields) fault
+      (subst (λ e. Tells (fields_in world env id fields) e) o moved))
+
+  pub is_laid : (part : List Field) (result : Result TypeLayout Fault) → found ≡ Ok part
+      → Tells (within in_object (lay part)) result → Tells laid result
+  is_laid part result o t =
+      subst (λ e. Tells e result)
+      (sym (ap (laid_if in_object lay) (subst (λ e. Tells (fields_in world env id fields) e) o moved))) t

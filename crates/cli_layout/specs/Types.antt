@@ -120,10 +120,13 @@ laid_of world ty = laid_layer world ty (out-Ty ty)
 abbrev pub one_part : List Field → TypeLayout
 one_part fields = object_with (fields ∷ [])
 
+abbrev pub statics_laid : World → Ty → TypeId → Result TypeLayout Unlaid
+statics_laid world ty id =
+    laid_if itself one_part (fields_in world (arguments_of world ty) id (static_fields world id))
+
 abbrev pub statics_in : World → Ty → Option TypeId → Result TypeLayout Unlaid
 statics_in world ty None = Ok (bare 8)
-statics_in world ty (Some id) =
-    laid_if itself one_part (fields_in world (arguments_of world ty) id (static_fields world id))
+statics_in world ty (Some id) = statics_laid world ty id
 
 unfoldable pub statics_of : World → Ty → Result TypeLayout Unlaid
 statics_of world ty = statics_in world ty (definition_of world ty)

@@ -46,7 +46,7 @@ fn note(loaded: &mut List<Loaded>, alloc: Global, ty: &Ty, layout: TypeLayout) -
     requires small { All IsSmallOne loaded.old }
     requires size { layout.laid.size ≤ 65536 }
     ensures added { OnOk result (loaded.new ≡ loaded.old ++ record { ty = ty.now; layout = layout } ∷ []) }
-    ensures small { All IsSmallOne loaded.new }
+    ensures small { OnOk result (All IsSmallOne loaded.new) }
 {
     if layout.fields.len() > u32::MAX as usize {
         return Err(Memory);

@@ -224,6 +224,7 @@ fn primitive_laid<D: Definitions>(
 }
 
 /// Where the fields of an object or a value of a type lie, the topmost base first, and how many bytes it has.
+#[tactic(auto, unfolding(crate::specs::Types::laid_of))]
 pub(crate) fn laid_of<D: Definitions>(
     definitions: &D,
     alloc: Global,
@@ -246,7 +247,24 @@ pub(crate) fn laid_of<D: Definitions>(
     }
 }
 
+/// Where the static fields of a type of this definition lie.
+fn statics_laid<D: Definitions>(
+    definitions: &D,
+    alloc: Global,
+    ty: &Ty,
+    id: TypeId,
+) -> Result<TypeLayout, Fault>
+    ensures told { Tells (layouts.statics_laid (D.world definitions.now) ty.now id) result }
+    ensures limit { IfOk result (λ layout. layout.laid.size ≤ 65536) }
+{
+    let args = arguments_of(definitions, alloc, ty)?;
+    let rows = definitions.statics(alloc, id)?;
+    let fields = fields_in(definitions, alloc, args.as_slice(), id, rows.as_slice())?;
+    one_part(alloc, fields)
+}
+
 /// Where the static fields of a type lie, as those of one object, and how many bytes that has.
+#[tactic(auto, unfolding(crate::specs::Types::statics_of))]
 pub(crate) fn statics_of<D: Definitions>(
     definitions: &D,
     alloc: Global,
@@ -255,13 +273,10 @@ pub(crate) fn statics_of<D: Definitions>(
     ensures told { Tells (layouts.statics_of (D.world definitions.now) ty.now) result }
     ensures limit { IfOk result (λ layout. layout.laid.size ≤ 65536) }
 {
-    let Some(id) = definitions.definition(alloc, ty)? else {
-        return Ok(bare(alloc, 8));
-    };
-    let args = arguments_of(definitions, alloc, ty)?;
-    let rows = definitions.statics(alloc, id)?;
-    let fields = fields_in(definitions, alloc, args.as_slice(), id, rows.as_slice())?;
-    one_part(alloc, fields)
+    match definitions.definition(alloc, ty)? {
+        Some(id) => statics_laid(definitions, alloc, ty, id),
+        None => Ok(bare(alloc, 8)),
+    }
 }
 
 /// One object with these fields.
