@@ -1,3 +1,8 @@
 pub mod Runs
 pub mod Later
+pub mod Keeping
+pub mod KeepingPlaces
+pub mod KeepingCalls
+pub mod KeepingSteps
+pub mod KeepingRuns
 mod Worked

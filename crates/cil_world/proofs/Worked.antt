@@ -15,7 +15,7 @@ use Rattle.ty_terms.specs.declared.ty.Ty.TheVariants.{Prim}
 use Rattle.ty_layout.specs.Objects.{vector_bytes}
 use Rattle.cil_world.specs.Did.{Reads, Writes}
 use Rattle.cil_world.specs.Entering.{has_room, has_stack}
-use Rattle.cil_world.specs.State.{Begun, Frame, at_offset, with_frames, with_initializing}
+use Rattle.cil_world.specs.State.{Begun, Frame, Setting, at_offset, with_frames, with_initializing}
 use Rattle.cil_world.specs.Step.{cil_step, initializer_frame, no_frames, settles, throws}
 use Rattle.cil_world.specs.Unwinding.{inner_first, numbers_of}
 use Rattle.num_core.specs.declared.kind.Narrow.{Narrow}
@@ -153,6 +153,9 @@ bounds =
       stack_limit = omega arith;
     }
 
+setting : Setting
+setting = record { bounds = bounds; nodes = None }
+
 -- where no frame has a clause the program ends at once
 unhandled : throws [] no_frames streams (Made 0)
     ≡ Ended 134 (record { input = 0x61 ∷ []; output = 0x62 ∷ []; error = codes "Unhandled exception" ++ (0x0A ∷ []) })
@@ -160,23 +163,23 @@ unfolding streams chars
 unhandled = refl
 
 -- a byte is written, and one is read
-writes : settles [] bounds no_frames 5 streams (Writes no_frames 0x63)
+writes : settles [] setting no_frames 5 streams (Writes no_frames 0x63)
     ≡ Goes no_frames (record { input = 0x61 ∷ []; output = 0x62 ∷ 0x63 ∷ []; error = [] })
 unfolding streams
 writes = refl
 
-reads : settles [] bounds no_frames 5 streams (Reads no_frames)
+reads : settles [] setting no_frames 5 streams (Reads no_frames)
     ≡ Goes no_frames (record { input = []; output = 0x62 ∷ []; error = [] })
 unfolding streams
 reads = refl
 
 -- 40 bytes are room for a vector of 24 bytes, and not for one of 25
-fits_in_heap : has_room bounds no_frames (vector_bytes 24 1) ≡ true
-unfolding bounds
+fits_in_heap : has_room setting no_frames (vector_bytes 24 1) ≡ true
+unfolding bounds setting
 fits_in_heap = refl
 
-passes_heap : has_room bounds no_frames (vector_bytes 25 1) ≡ false
-unfolding bounds
+passes_heap : has_room setting no_frames (vector_bytes 25 1) ≡ false
+unfolding bounds setting
 passes_heap = refl
 
 -- three stubs are as many frames as 1,024 bytes have room for, and one more
@@ -184,16 +187,16 @@ stubs : ℕ → List Frame
 stubs zero = []
 stubs (suc n) = initializer_frame (Prim Primitive.Object) false ∷ stubs n
 
-fits_on_stack : has_stack [] bounds (stubs 3) 256 ≡ true
-unfolding bounds stubs
+fits_on_stack : has_stack [] setting (stubs 3) 256 ≡ true
+unfolding bounds setting stubs
 fits_on_stack = refl
 
-passes_stack : has_stack [] bounds (stubs 4) 256 ≡ false
-unfolding bounds stubs
+passes_stack : has_stack [] setting (stubs 4) 256 ≡ false
+unfolding bounds setting stubs
 passes_stack = refl
 
 -- an initializer that is new is begun by the first sentence of its stub
-begun : cil_step [] bounds (with_frames (stubs 1) no_frames) streams
+begun : cil_step [] setting (with_frames (stubs 1) no_frames) streams
     ≡ Goes (with_initializing (Prim Primitive.Object) Begun
     (with_frames (at_offset 1 (initializer_frame (Prim Primitive.Object) false) ∷ []) no_frames)) streams
 unfolding cil_step stubs

@@ -1,10 +1,11 @@
 -- What an operation can do to a state, as the groups of operations answer it.
-use Rattle.std.specs.Prelude.{ℕ, List, Option, Some, None, Result, Ok, Err, [], ◌∷◌}
+use Rattle.std.specs.Prelude.{ℕ, ℤ, Bool, true, false, List, Option, Some, None, Result, Ok, Err, [], ◌∷◌}
 use Rattle.ty_terms.specs.declared.ty.Ty.{Ty}
+use Rattle.ty_names.specs.Modules.{World}
 use Rattle.il_verify.specs.Raises.{Raised}
-use Rattle.cil_world.specs.Entering.{Ending}
-use Rattle.cil_world.specs.State.{CilState}
-use Rattle.cil_world.specs.Values.{Value, Reference}
+use Rattle.cil_world.specs.Entering.{Ending, StackBound, bytes_of_running, has_stack}
+use Rattle.cil_world.specs.State.{CilState, Frame, Setting, with_frames}
+use Rattle.cil_world.specs.Values.{Value, Reference, Pointer}
 
 pub data Did : Type 0 where
   -- the results are pushed, and the frame moves on to the next instruction
@@ -13,8 +14,9 @@ pub data Did : Type 0 where
   GoesTo : CilState → (offset : ℕ) → Did
   -- an exception of the runtime's own is made and thrown
   Raises : CilState → Raised → Did
-  -- the same, of the namespace System of the core, by its name
-  RaisesNamed : CilState → (name : List ℕ) → Did
+  -- the same, of a namespace of the core, by its name; and one behind which another object stands
+  RaisesNamed : CilState → (namespace name : List ℕ) → Did
+  RaisesOf : CilState → (namespace name : List ℕ) → Reference → Did
   -- an object that is there is thrown
   Throws : CilState → Reference → Did
   -- all is said: frames were pushed or popped, or a search goes on
@@ -46,3 +48,53 @@ abbrev pub given_or_raised : CilState → Option (Result Value Raised) → Did
 given_or_raised state (Some (Ok value)) = given state value
 given_or_raised state (Some (Err raised)) = Raises state raised
 given_or_raised state None = Cannot
+
+-- ---- operands
+
+-- An operation by so many operands; on another number of them there is no step.
+abbrev pub on_none : List Value → Did → Did
+on_none [] did = did
+on_none (value ∷ rest) did = Cannot
+
+abbrev pub on_one : List Value → (Value → Did) → Did
+on_one (value ∷ []) next = next value
+on_one _ next = Cannot
+
+abbrev pub on_two : List Value → (Value → Value → Did) → Did
+on_two (first ∷ (second ∷ [])) next = next first second
+on_two _ next = Cannot
+
+abbrev pub on_three : List Value → (Value → Value → Value → Did) → Did
+on_three (first ∷ (second ∷ (third ∷ []))) next = next first second third
+on_three _ next = Cannot
+
+-- a reference, a pointer, an int32, and what is there
+abbrev pub on_reference : Value → (Reference → Did) → Did
+on_reference (Value.Object reference) next = next reference
+on_reference _ next = Cannot
+
+abbrev pub on_pointer : Value → (Pointer → Did) → Did
+on_pointer (Value.Address pointer) next = next pointer
+on_pointer _ next = Cannot
+
+abbrev pub on_int32 : Value → (ℤ → Did) → Did
+on_int32 (Value.Int32 n) next = next n
+on_int32 _ next = Cannot
+
+abbrev pub on_some : {A : Type 0} → Option A → (A → Did) → Did
+on_some (Some item) next = next item
+on_some None next = Cannot
+
+-- ---- frames
+
+abbrev pub pushed : Frame → CilState → CilState
+pushed frame state = with_frames (frame ∷ state.frames) state
+
+abbrev pub pushed_if : Bool → Frame → CilState → Did
+pushed_if false frame state = Ends StackBound
+pushed_if true frame state = Moves (pushed frame state)
+
+-- a frame above the others, if the stack has room for it
+abbrev pub pushes_frame : World → Setting → CilState → Frame → Did
+pushes_frame world setting state frame =
+    pushed_if (has_stack world setting state.frames (bytes_of_running world frame.runs)) frame state

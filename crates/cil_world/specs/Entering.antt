@@ -7,7 +7,6 @@ use Rattle.std.specs.Int.{next_multiple_of}
 use Rattle.std.specs.List.{list_all}
 use Rattle.std.specs.Option.{option_map, option_map_or, option_and_then}
 use Rattle.std.specs.Str.{bytes_eq}
-use Rattle.num_core.specs.declared.bounds.Bounds.{Bounds}
 use Rattle.il_code.specs.declared.body.Body.{Body}
 use Rattle.md_sigs.specs.declared.sig.MethodSig.{MethodSig}
 use Rattle.ty_terms.specs.declared.names.FieldName.{FieldName}
@@ -31,10 +30,10 @@ use Rattle.cli_layout.specs.declared.extent.Unlaid.{Unlaid}
 use Rattle.cli_layout.specs.declared.rows.TypeLayout.{TypeLayout}
 use Rattle.il_verify.specs.Inside.{is_inside, method_body}
 use Rattle.il_verify.specs.Kinds.{Content, Number, Object, Compound, Pointing, NoContent, content_of, is_value}
-use Rattle.il_verify.specs.Scope.{Callee, Scope, scope_of, is_constructor, member_of}
+use Rattle.il_verify.specs.Scope.{Callee, Scope, all_params, callee_of, scope_of, is_constructor, member_of}
 use Rattle.il_verify.specs.Verified.{Typing, verification}
 use Rattle.cil_world.specs.Contents.{deepest, own_fields, size_of}
-use Rattle.cil_world.specs.State.{CilState, Frame, Holding, Running, Code, Initializes, Makes, Invokes}
+use Rattle.cil_world.specs.State.{CilState, Frame, Holding, Running, Setting, Code, Initializes, Makes, Invokes}
 use Rattle.cil_world.specs.State.{Initializing, Done, initializing}
 use Rattle.cil_world.specs.Values.{Reference, Made as MadeAs}
 
@@ -54,8 +53,8 @@ text_of Unhandled = line (codes "Unhandled exception")
 
 -- ---- the heap
 
-abbrev pub has_room : Bounds → CilState → ℕ → Bool
-has_room bounds state bytes = nat_le (state.heap + bytes) bounds.heap
+abbrev pub has_room : Setting → CilState → ℕ → Bool
+has_room setting state bytes = nat_le (state.heap + bytes) setting.bounds.heap
 
 -- the object that is made next, and the state with it
 abbrev pub next_object : CilState → Reference
@@ -178,20 +177,34 @@ unfoldable pub entry : World → MethodName → Option Entry
 entry world name =
     option_and_then (λ body. entry_in world name body (scope_of world name body)) (method_body world name.method)
 
+-- what a frame runs that is no stub
+abbrev pub entry_of_running : World → Running → Option Entry
+entry_of_running world (Code name) = entry world name
+entry_of_running world (Initializes ty resumes) = None
+entry_of_running world (Makes ty) = None
+entry_of_running world (Invokes name) = None
+
 abbrev pub stub_bytes : ℕ
 stub_bytes = 256
 
+-- all that a method takes, the object counted, each rounded up to 8
+abbrev pub argument_bytes : World → MethodName → ℕ
+argument_bytes world name =
+    option_map_or (λ callee. places_bytes world (all_params callee)) (callee_of world name) 0
+
+-- a stub that calls a method by its name has room for what the method takes
 abbrev pub bytes_of_running : World → Running → ℕ
 bytes_of_running world (Code name) = option_map_or (λ found. found.bytes) (entry world name) 0
 bytes_of_running world (Initializes ty resumes) = stub_bytes
 bytes_of_running world (Makes ty) = stub_bytes
-bytes_of_running world (Invokes name) = stub_bytes
+bytes_of_running world (Invokes name) = stub_bytes + argument_bytes world name
 
 abbrev pub bytes_of_frames : World → List Frame → ℕ
-bytes_of_frames world frames = sum_by (λ frame. bytes_of_running world frame.runs) frames
+bytes_of_frames world [] = 0
+bytes_of_frames world (frame ∷ below) = bytes_of_running world frame.runs + bytes_of_frames world below
 
-abbrev pub has_stack : World → Bounds → List Frame → ℕ → Bool
-has_stack world bounds frames bytes = nat_le (bytes_of_frames world frames + bytes) bounds.stack
+abbrev pub has_stack : World → Setting → List Frame → ℕ → Bool
+has_stack world setting frames bytes = nat_le (bytes_of_frames world frames + bytes) setting.bounds.stack
 
 -- ---- initializers (II.10.5.3)
 

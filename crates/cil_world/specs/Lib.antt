@@ -12,5 +12,6 @@ pub mod ObjectSteps
 pub mod RuntimeSteps
 pub mod Unwinding
 pub mod CallSteps
+pub mod StubSteps
 pub mod Step
 pub mod Later

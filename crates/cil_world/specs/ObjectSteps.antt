@@ -3,7 +3,6 @@ use Rattle.std.specs.Prelude.{ℕ, ◌+◌, ◌==◌, ◌&&◌, ◌||◌, nat_lt
 use Rattle.std.specs.Prelude.{if◌then◌else◌, List, [], ◌∷◌, ◌++◌, codes, length, map, position, replicate, slice_get}
 use Rattle.std.specs.Prelude.{Option, Some, None}
 use Rattle.std.specs.Option.{option_map, option_map_or, option_and_then}
-use Rattle.num_core.specs.declared.bounds.Bounds.{Bounds}
 use Rattle.ty_terms.specs.declared.ty.Primitive.{Primitive}
 use Rattle.ty_terms.specs.declared.ty.Ty.{Ty}
 use Rattle.ty_terms.specs.declared.ty.Ty.TheVariants.{Prim, Vector}
@@ -26,11 +25,12 @@ use Rattle.cil_world.specs.Comparisons.{is_null}
 use Rattle.cil_world.specs.Contents.{box_bytes, elements_bytes, object_fields, stored}
 use Rattle.cil_world.specs.Contents.{zero_of}
 use Rattle.cil_world.specs.Did.{Did, Gives, Raises, Triggers, Ends, Cannot, given, given_if, written_if}
+use Rattle.cil_world.specs.Did.{on_none, on_one, on_two, on_three, on_reference, on_some}
 use Rattle.cil_world.specs.Entering.{HeapBound, Unchecked, has_room, next_object, with_object, may_lay_out}
 use Rattle.cil_world.specs.Entering.{may_lay_out_statics, may_lay_out_value, is_to_initialize}
 use Rattle.cil_world.specs.Places.{read_place, write_place}
 use Rattle.cil_world.specs.PlaceSteps.{as_read}
-use Rattle.cil_world.specs.State.{CilState, Holding, Elements, Boxed}
+use Rattle.cil_world.specs.State.{CilState, Holding, Setting, Elements, Boxed}
 use Rattle.cil_world.specs.Values.{Value, Reference, Null, Made as MadeAs, Lying, ImageObject, TextOf, TypeOf, MethodOf}
 use Rattle.cil_world.specs.Values.{NoWords, Pointer, Nowhere, At, FieldOf, ElementOf, BoxedIn, StaticOf, Values}
 use Rattle.cil_world.specs.Values.{field_in}
@@ -59,6 +59,12 @@ fits_type world to (Some from) = fits world from to
 abbrev pub may_refer : World → CilState → Ty → Reference → Bool
 may_refer world state to reference =
     is_null reference || fits_type world to (type_of_object world state reference)
+
+-- an object that is an Exception
+abbrev pub is_exception : World → CilState → Reference → Bool
+is_exception world state object =
+    option_map_or (λ ty. fits_type world ty (type_of_object world state object))
+    (system world (codes "Exception")) false
 
 -- ---- fields
 
@@ -159,27 +165,27 @@ at_static world state again owner done =
 abbrev pub static_place : Member → Pointer
 static_place member = At (StaticOf member.name) [] member.ty
 
-abbrev pub with_member : Option Member → (Member → Did) → Did
-with_member None next = Cannot
-with_member (Some member) next = next member
-
 abbrev pub field_step : Scope → CilState → Bool → FieldAction → List Value → Did
-field_step scope state again (ReadField token) (object ∷ []) =
-    with_member (instance_field scope token) (λ member. read_field scope.world state member object)
-field_step scope state again (AddressOfField token) (object ∷ []) =
-    with_member (instance_field scope token) (λ member. address_of_field scope.world state member object)
-field_step scope state again (WriteField token) (object ∷ (value ∷ [])) =
-    with_member (instance_field scope token) (λ member. write_field scope.world state member object value)
-field_step scope state again (ReadStatic token) [] =
-    with_member (static_field scope token) (λ member. at_static scope.world state again member.name.owner
-    (given_if state (read_at scope.world state (Some (static_place member)))))
-field_step scope state again (AddressOfStatic token) [] =
-    with_member (static_field scope token) (λ member. at_static scope.world state again member.name.owner
-    (given state (Value.Address (static_place member))))
-field_step scope state again (WriteStatic token) (value ∷ []) =
-    with_member (static_field scope token) (λ member. at_static scope.world state again member.name.owner
-    (written_if (write_at scope.world state (Some (static_place member)) value)))
-field_step scope state again _ _ = Cannot
+field_step scope state again (ReadField token) operands =
+    on_one operands (λ object. on_some (instance_field scope token) (λ member.
+    read_field scope.world state member object))
+field_step scope state again (AddressOfField token) operands =
+    on_one operands (λ object. on_some (instance_field scope token) (λ member.
+    address_of_field scope.world state member object))
+field_step scope state again (WriteField token) operands =
+    on_two operands (λ object value. on_some (instance_field scope token) (λ member.
+    write_field scope.world state member object value))
+field_step scope state again (ReadStatic token) operands =
+    on_none operands (on_some (static_field scope token) (λ member.
+    at_static scope.world state again member.name.owner
+    (given_if state (read_at scope.world state (Some (static_place member))))))
+field_step scope state again (AddressOfStatic token) operands =
+    on_none operands (on_some (static_field scope token) (λ member.
+    at_static scope.world state again member.name.owner (given state (Value.Address (static_place member)))))
+field_step scope state again (WriteStatic token) operands =
+    on_one operands (λ value. on_some (static_field scope token) (λ member.
+    at_static scope.world state again member.name.owner
+    (written_if (write_at scope.world state (Some (static_place member)) value))))
 
 -- ---- vectors
 
@@ -200,17 +206,16 @@ vector_if_room true world state element count =
     (elements_bytes world element count) state)
     (Value.Object (next_object state) ∷ [])
 
-abbrev pub new_vector : Bounds → World → CilState → Ty → Option (Option ℕ) → Did
-new_vector bounds world state element None = Cannot
-new_vector bounds world state element (Some None) = Raises state Overflow
-new_vector bounds world state element (Some (Some count)) =
-    vector_if_room (has_room bounds state (elements_bytes world element count)) world state element count
+abbrev pub new_vector : Setting → World → CilState → Ty → Option (Option ℕ) → Did
+new_vector setting world state element None = Cannot
+new_vector setting world state element (Some None) = Raises state Overflow
+new_vector setting world state element (Some (Some count)) =
+    vector_if_room (has_room setting state (elements_bytes world element count)) world state element count
 
 -- elements that are values are laid out
-abbrev pub vector_of : Bounds → World → CilState → Value → Option Ty → Did
-vector_of bounds world state count None = Cannot
-vector_of bounds world state count (Some element) =
-    if may_lay_out_value world element then new_vector bounds world state element (index_of count) else Ends Unchecked
+abbrev pub vector_of : Setting → World → CilState → Value → Ty → Did
+vector_of setting world state count element =
+    if may_lay_out_value world element then new_vector setting world state element (index_of count) else Ends Unchecked
 
 abbrev pub count_held : Holding → Option ℕ
 count_held (Elements values) = Some (length values)
@@ -281,31 +286,31 @@ element_address world state readonly ty vector n =
     if is_mismatch world readonly ty (element_type world state vector) then Raises state ArrayTypeMismatch
     else address_given state (element_place vector n ty)
 
-abbrev pub with_type : Option Ty → (Ty → Did) → Did
-with_type None next = Cannot
-with_type (Some ty) next = next ty
-
 abbrev pub length_step : CilState → Reference → Did
 length_step state Null = Raises state NullReference
 length_step state (MadeAs n) = length_given state (count_of state (MadeAs n))
 length_step state (Lying object) = length_given state (count_of state (Lying object))
 
-abbrev pub vector_step : Bounds → Scope → CilState → Bool → VectorAction → List Value → Did
-vector_step bounds scope state readonly (NewVector token) (count ∷ []) =
-    vector_of bounds scope.world state count (type_token scope token)
-vector_step bounds scope state readonly Length (Value.Object vector ∷ []) = length_step state vector
-vector_step bounds scope state readonly (ReadElementAs access) (Value.Object vector ∷ (index ∷ [])) =
-    at_element state vector index (element_read scope.world state vector access)
-vector_step bounds scope state readonly (WriteElementAs access) (Value.Object vector ∷ (index ∷ (value ∷ []))) =
-    at_element state vector index (element_written scope.world state vector value)
-vector_step bounds scope state readonly (ReadElement token) (Value.Object vector ∷ (index ∷ [])) =
-    at_element state vector index (element_loaded scope.world state vector)
-vector_step bounds scope state readonly (WriteElement token) (Value.Object vector ∷ (index ∷ (value ∷ []))) =
-    at_element state vector index (element_written scope.world state vector value)
-vector_step bounds scope state readonly (AddressOfElement token) (Value.Object vector ∷ (index ∷ [])) =
-    with_type (type_token scope token) (λ ty.
-    at_element state vector index (element_address scope.world state readonly ty vector))
-vector_step bounds scope state readonly _ _ = Cannot
+abbrev pub vector_step : Setting → Scope → CilState → Bool → VectorAction → List Value → Did
+vector_step setting scope state readonly (NewVector token) operands =
+    on_one operands (λ count. on_some (type_token scope token) (vector_of setting scope.world state count))
+vector_step setting scope state readonly Length operands =
+    on_one operands (λ vector. on_reference vector (length_step state))
+vector_step setting scope state readonly (ReadElementAs access) operands =
+    on_two operands (λ vector index. on_reference vector (λ reference.
+    at_element state reference index (element_read scope.world state reference access)))
+vector_step setting scope state readonly (WriteElementAs access) operands =
+    on_three operands (λ vector index value. on_reference vector (λ reference.
+    at_element state reference index (element_written scope.world state reference value)))
+vector_step setting scope state readonly (ReadElement token) operands =
+    on_two operands (λ vector index. on_reference vector (λ reference.
+    at_element state reference index (element_loaded scope.world state reference)))
+vector_step setting scope state readonly (WriteElement token) operands =
+    on_three operands (λ vector index value. on_reference vector (λ reference.
+    at_element state reference index (element_written scope.world state reference value)))
+vector_step setting scope state readonly (AddressOfElement token) operands =
+    on_two operands (λ vector index. on_reference vector (λ reference. on_some (type_token scope token) (λ ty.
+    at_element state reference index (element_address scope.world state readonly ty reference))))
 
 -- ---- boxing and casts
 
@@ -316,10 +321,10 @@ boxed_if true world state ty value =
     (Value.Object (next_object state) ∷ [])
 
 -- a value type's value is copied into an object; a reference stays
-abbrev pub box_value : Bounds → World → CilState → Value → Ty → Did
-box_value bounds world state value ty =
+abbrev pub box_value : Setting → World → CilState → Value → Ty → Did
+box_value setting world state value ty =
     if not (is_value world ty) then given state value
-    else if may_lay_out world ty then boxed_if (has_room bounds state (box_bytes world ty)) world state ty value
+    else if may_lay_out world ty then boxed_if (has_room setting state (box_bytes world ty)) world state ty value
     else Ends Unchecked
 
 -- a boxed value of exactly the type
@@ -350,15 +355,18 @@ abbrev pub instance_of : World → CilState → Reference → Ty → Did
 instance_of world state reference ty =
     given state (Value.Object (if may_refer world state ty reference then reference else Null))
 
-abbrev pub cast_step : Bounds → Scope → CilState → CastAction → List Value → Did
-cast_step bounds scope state (Box token) (value ∷ []) =
-    with_type (type_token scope token) (box_value bounds scope.world state value)
-cast_step bounds scope state (Unbox token) (Value.Object reference ∷ []) =
-    with_type (type_token scope token) (λ ty. unboxed scope.world state ty reference (address_given state))
-cast_step bounds scope state (UnboxAny token) (Value.Object reference ∷ []) =
-    with_type (type_token scope token) (unbox_any scope.world state reference)
-cast_step bounds scope state (CastClass token) (Value.Object reference ∷ []) =
-    with_type (type_token scope token) (cast_class scope.world state reference)
-cast_step bounds scope state (IsInstance token) (Value.Object reference ∷ []) =
-    with_type (type_token scope token) (instance_of scope.world state reference)
-cast_step bounds scope state _ _ = Cannot
+abbrev pub cast_step : Setting → Scope → CilState → CastAction → List Value → Did
+cast_step setting scope state (Box token) operands =
+    on_one operands (λ value. on_some (type_token scope token) (box_value setting scope.world state value))
+cast_step setting scope state (Unbox token) operands =
+    on_one operands (λ object. on_reference object (λ reference. on_some (type_token scope token) (λ ty.
+    unboxed scope.world state ty reference (address_given state))))
+cast_step setting scope state (UnboxAny token) operands =
+    on_one operands (λ object. on_reference object (λ reference. on_some (type_token scope token) (λ ty.
+    unbox_any scope.world state reference ty)))
+cast_step setting scope state (CastClass token) operands =
+    on_one operands (λ object. on_reference object (λ reference. on_some (type_token scope token) (λ ty.
+    cast_class scope.world state reference ty)))
+cast_step setting scope state (IsInstance token) operands =
+    on_one operands (λ object. on_reference object (λ reference. on_some (type_token scope token) (λ ty.
+    instance_of scope.world state reference ty)))

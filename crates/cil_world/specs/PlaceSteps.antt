@@ -17,6 +17,7 @@ use Rattle.cil_world.specs.Arithmetic.{number_result}
 use Rattle.cil_world.specs.Comparisons.{holds, is_zero_or_null, truth, chosen}
 use Rattle.cil_world.specs.Contents.{cut, size_of, zero_of}
 use Rattle.cil_world.specs.Did.{Did, Gives, GoesTo, Raises, Ends, Cannot, given, given_if, written_if, given_or_raised}
+use Rattle.cil_world.specs.Did.{on_none, on_one, on_two, on_pointer, on_some}
 use Rattle.cil_world.specs.Entering.{Unchecked, may_lay_out}
 use Rattle.cil_world.specs.Places.{read_place, write_place}
 use Rattle.cil_world.specs.State.{CilState, Frame}
@@ -33,14 +34,14 @@ abbrev pub value_in : Frame → Place → Option Value
 value_in frame (Argument n) = slice_get frame.args n
 value_in frame (Local n) = slice_get frame.locals n
 
-abbrev pub written_at : Scope → CilState → ℕ → Place → Value → Option Ty → Did
-written_at scope state number place value None = Cannot
-written_at scope state number place value (Some ty) =
-    written_if (write_place scope.world (root_of number place) [] ty value state)
+abbrev pub written_at : Scope → CilState → ℕ → Place → Value → Did
+written_at scope state number place value =
+    on_some (type_of_place scope place) (λ ty.
+    written_if (write_place scope.world (root_of number place) [] ty value state))
 
-abbrev pub address_at : CilState → ℕ → Place → Option Ty → Did
-address_at state number place None = Cannot
-address_at state number place (Some ty) = given state (Value.Address (At (root_of number place) [] ty))
+abbrev pub address_at : Scope → CilState → ℕ → Place → Did
+address_at scope state number place =
+    on_some (type_of_place scope place) (λ ty. given state (Value.Address (At (root_of number place) [] ty)))
 
 -- the handle of a type holds its Type, and that of a field says whose bytes it names
 abbrev pub handle_of : CilState → Option Item → Did
@@ -53,33 +54,29 @@ abbrev pub size_if : Bool → World → CilState → Ty → Did
 size_if false world state ty = Ends Unchecked
 size_if true world state ty = given state (Value.Int32 (pos (size_of world ty)))
 
-abbrev pub size_given : World → CilState → Option Ty → Did
-size_given world state None = Cannot
-size_given world state (Some ty) =
+abbrev pub size_given : World → CilState → Ty → Did
+size_given world state ty =
     if is_value world ty then size_if (may_lay_out world ty) world state ty else given state (Value.Int32 (pos 8))
 
-abbrev pub text_given : CilState → Option (List ℕ) → Did
-text_given state None = Cannot
-text_given state (Some units) = given state (Value.Object (Lying (TextOf units)))
-
 abbrev pub place_step : Scope → CilState → ℕ → Frame → PlaceAction → List Value → Did
-place_step scope state number frame Quiet [] = Gives state []
-place_step scope state number frame Twice (value ∷ []) = Gives state (value ∷ value ∷ [])
-place_step scope state number frame Drop (value ∷ []) = Gives state []
-place_step scope state number frame (Read place) [] = given_if state (value_in frame place)
-place_step scope state number frame (Write place) (value ∷ []) =
-    written_at scope state number place value (type_of_place scope place)
-place_step scope state number frame (AddressOf place) [] =
-    address_at state number place (type_of_place scope place)
-place_step scope state number frame (Number32 n) [] = given state (Value.Int32 n)
-place_step scope state number frame (Number64 n) [] = given state (Value.Int64 n)
-place_step scope state number frame Null [] = given state (Value.Object NullReference_)
-place_step scope state number frame (Text token) [] = text_given state (text_token scope token)
-place_step scope state number frame (Handle token) [] = handle_of state (item scope token)
-place_step scope state number frame (SizeOf token) [] = size_given scope.world state (type_token scope token)
-place_step scope state number frame (Constrained token) [] = Gives state []
-place_step scope state number frame Readonly [] = Gives state []
-place_step scope state number frame _ _ = Cannot
+place_step scope state number frame Quiet operands = on_none operands (Gives state [])
+place_step scope state number frame Twice operands = on_one operands (λ value. Gives state (value ∷ value ∷ []))
+place_step scope state number frame Drop operands = on_one operands (λ value. Gives state [])
+place_step scope state number frame (Read place) operands = on_none operands (given_if state (value_in frame place))
+place_step scope state number frame (Write place) operands = on_one operands (written_at scope state number place)
+place_step scope state number frame (AddressOf place) operands =
+    on_none operands (address_at scope state number place)
+place_step scope state number frame (Number32 n) operands = on_none operands (given state (Value.Int32 n))
+place_step scope state number frame (Number64 n) operands = on_none operands (given state (Value.Int64 n))
+place_step scope state number frame Null operands = on_none operands (given state (Value.Object NullReference_))
+place_step scope state number frame (Text token) operands =
+    on_none operands (on_some (text_token scope token) (λ units. given state (Value.Object (Lying (TextOf units)))))
+place_step scope state number frame (Handle token) operands =
+    on_none operands (handle_of state (item scope token))
+place_step scope state number frame (SizeOf token) operands =
+    on_none operands (on_some (type_token scope token) (size_given scope.world state))
+place_step scope state number frame (Constrained token) operands = on_none operands (Gives state [])
+place_step scope state number frame Readonly operands = on_none operands (Gives state [])
 
 -- ---- numbers
 
@@ -103,14 +100,15 @@ goes_to state next (Some None) = GoesTo state next
 goes_to state next (Some (Some target)) = GoesTo state target
 
 abbrev pub branch_step : CilState → ℕ → BranchAction → List Value → Did
-branch_step state next (Compare comparison) (a ∷ (b ∷ [])) = compared state (holds comparison a b)
-branch_step state next (Go target) [] = GoesTo state target
-branch_step state next (GoUnlessZero target) (a ∷ []) = goes_if state next target (is_zero_or_null a)
-branch_step state next (GoIfZero target) (a ∷ []) = goes_if state target next (is_zero_or_null a)
-branch_step state next (GoComparing comparison target) (a ∷ (b ∷ [])) =
-    goes_if state target next (holds comparison a b)
-branch_step state next (GoAmong targets) (a ∷ []) = goes_to state next (chosen targets a)
-branch_step state next _ _ = Cannot
+branch_step state next (Compare comparison) operands = on_two operands (λ a b. compared state (holds comparison a b))
+branch_step state next (Go target) operands = on_none operands (GoesTo state target)
+branch_step state next (GoUnlessZero target) operands =
+    on_one operands (λ a. goes_if state next target (is_zero_or_null a))
+branch_step state next (GoIfZero target) operands =
+    on_one operands (λ a. goes_if state target next (is_zero_or_null a))
+branch_step state next (GoComparing comparison target) operands =
+    on_two operands (λ a b. goes_if state target next (holds comparison a b))
+branch_step state next (GoAmong targets) operands = on_one operands (λ a. goes_to state next (chosen targets a))
 
 -- ---- behind pointers; on a null pointer NullReference is raised
 
@@ -149,11 +147,15 @@ clear_pointer world state Nowhere = Raises state NullReference
 clear_pointer world state (At root path ty) = written_if (write_place world root path ty (zero_of world ty) state)
 
 abbrev pub pointer_step : World → CilState → PointerAction → List Value → Did
-pointer_step world state (ReadAs access) (Value.Address from ∷ []) = read_pointer world state access from
-pointer_step world state (WriteAs access) (Value.Address to ∷ (value ∷ [])) = write_pointer world state to value
-pointer_step world state (ReadObject token) (Value.Address from ∷ []) = read_object world state from
-pointer_step world state (WriteObject token) (Value.Address to ∷ (value ∷ [])) = write_pointer world state to value
-pointer_step world state (CopyObject token) (Value.Address to ∷ (Value.Address from ∷ [])) =
-    copy_pointer world state to from
-pointer_step world state (ClearObject token) (Value.Address to ∷ []) = clear_pointer world state to
-pointer_step world state _ _ = Cannot
+pointer_step world state (ReadAs access) operands =
+    on_one operands (λ from. on_pointer from (read_pointer world state access))
+pointer_step world state (WriteAs access) operands =
+    on_two operands (λ to value. on_pointer to (λ pointer. write_pointer world state pointer value))
+pointer_step world state (ReadObject token) operands =
+    on_one operands (λ from. on_pointer from (read_object world state))
+pointer_step world state (WriteObject token) operands =
+    on_two operands (λ to value. on_pointer to (λ pointer. write_pointer world state pointer value))
+pointer_step world state (CopyObject token) operands =
+    on_two operands (λ to from. on_pointer to (λ target. on_pointer from (copy_pointer world state target)))
+pointer_step world state (ClearObject token) operands =
+    on_one operands (λ to. on_pointer to (clear_pointer world state))

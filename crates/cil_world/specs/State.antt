@@ -1,12 +1,21 @@
 -- The state of a CIL program: ECMA-335 I.12.3.1, I.12.3.2, I.12.4.2.
-use Rattle.std.specs.Prelude.{ℕ, zero, suc, ◌-◌, ◌==◌, ◌&&◌, Bool, List, [], ◌∷◌, ◌++◌, length, find, slice_get}
-use Rattle.std.specs.Prelude.{Option, None}
+use Rattle.std.specs.Prelude.{ℕ, zero, suc, ◌==◌, ◌&&◌, Bool, if◌then◌else◌, List, [], ◌∷◌, ◌++◌, length, find}
+use Rattle.std.specs.Prelude.{Option, Some, None}
 use Rattle.std.specs.Option.{option_map}
+use Rattle.num_core.specs.declared.bounds.Bounds.{Bounds}
 use Rattle.ty_terms.specs.declared.names.FieldName.{FieldName}
 use Rattle.ty_terms.specs.declared.names.MethodName.{MethodName}
+use Rattle.ty_terms.specs.declared.nodes.Node.{Node}
 use Rattle.ty_terms.specs.declared.ty.Ty.{Ty}
 use Rattle.ty_load.specs.Members.{same_type}
 use Rattle.cil_world.specs.Values.{Value, Reference}
+
+-- ---- what a run goes by beside its world
+
+-- The bounds of heap and stack; and the nodes to which look-ups by name are kept, where a program is run trimmed.
+pub record Setting : Type 0 where
+  pub bounds : Bounds
+  pub nodes : Option (List Node)
 
 -- ---- objects
 
@@ -55,8 +64,8 @@ pub record Caught : Type 0 where
   pub object : Reference
 
 -- A call that isn't over: its arguments and locals, its evaluation stack, the top first, and the offset of its next
--- instruction, or of the call for which it waits; of a stub its next sentence. What a frame waits for, what its catch
--- handlers have caught, and what is pending in it, the innermost first.
+-- instruction, or of the call for which it waits; of a stub its next sentence, by a number. What a frame waits for, what
+-- its catch handlers have caught, and what is pending in it, the innermost first.
 pub record Frame : Type 0 where
   pub runs : Running
   pub args : List Value
@@ -115,17 +124,29 @@ changed_at zero change (item ∷ rest) = change item ∷ rest
 changed_at (suc n) change (item ∷ rest) = item ∷ changed_at n change rest
 
 -- the frame of a number, counted from the bottom
-abbrev pub depth_to : List Frame → ℕ → ℕ
-depth_to frames number = length frames - 1 - number
-
 abbrev pub frame_at : List Frame → ℕ → Option Frame
-frame_at frames number = slice_get frames (depth_to frames number)
+frame_at [] number = None
+frame_at (frame ∷ below) number = if length below == number then Some frame else frame_at below number
+
+-- the frames from that of a number downward
+abbrev pub frames_from : List Frame → ℕ → List Frame
+frames_from [] number = []
+frames_from (frame ∷ below) number = if length below == number then frame ∷ below else frames_from below number
+
+abbrev pub frame_changed : ℕ → (Frame → Frame) → List Frame → List Frame
+frame_changed number change [] = []
+frame_changed number change (frame ∷ below) =
+    if length below == number then change frame ∷ below else frame ∷ frame_changed number change below
 
 abbrev pub change_frame : ℕ → (Frame → Frame) → CilState → CilState
-change_frame number change state = with_frames (changed_at (depth_to state.frames number) change state.frames) state
+change_frame number change state = with_frames (frame_changed number change state.frames) state
+
+abbrev pub top_changed : (Frame → Frame) → List Frame → List Frame
+top_changed change [] = []
+top_changed change (frame ∷ below) = change frame ∷ below
 
 abbrev pub change_top : (Frame → Frame) → CilState → CilState
-change_top change state = with_frames (changed_at 0 change state.frames) state
+change_top change state = with_frames (top_changed change state.frames) state
 
 abbrev pub with_stack : List Value → Frame → Frame
 with_stack stack frame = record frame { stack = stack }
@@ -152,6 +173,35 @@ new_frame runs args locals =
       caught = [];
       pending = [];
     }
+
+-- ---- the sentences of stubs, by their numbers
+
+-- the first one; and that of a stub for a call by name which counts the arguments, and the one which tests them
+abbrev pub begins_at : ℕ
+begins_at = 0
+
+abbrev pub counts_at : ℕ
+counts_at = 6
+
+abbrev pub tests_at : ℕ
+tests_at = 7
+
+-- the one that calls; while an initializer runs that the call triggers; while what is called runs; behind its return
+abbrev pub calls_at : ℕ
+calls_at = 1
+
+abbrev pub triggers_at : ℕ
+triggers_at = 5
+
+abbrev pub waits_at : ℕ
+waits_at = 2
+
+abbrev pub returned_at : ℕ
+returned_at = 3
+
+-- the one of a stub that has caught
+abbrev pub catches_at : ℕ
+catches_at = 4
 
 -- ---- statics and initializers
 

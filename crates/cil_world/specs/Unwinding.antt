@@ -1,7 +1,7 @@
 -- Searches, unwinding and handlers: ECMA-335 I.12.4.2.5 to I.12.4.2.8, III.3.35, III.3.46, III.4.24. Where no catch
 -- is found no handler runs.
-use Rattle.std.specs.Prelude.{ℕ, ◌+◌, ◌-◌, ◌==◌, ◌&&◌, nat_lt, nat_le, Bool, true, false, not, List, [], ◌∷◌}
-use Rattle.std.specs.Prelude.{codes, drop, filter, find, length, map, slice_get, if◌then◌else◌, Option}
+use Rattle.std.specs.Prelude.{ℕ, ◌+◌, ◌-◌, ◌==◌, ◌&&◌, ◌||◌, nat_lt, nat_le, Bool, true, false, not, List, [], ◌∷◌}
+use Rattle.std.specs.Prelude.{filter, find, length, map, slice_get, if◌then◌else◌, Option}
 use Rattle.std.specs.Prelude.{Some, None}
 use Rattle.std.specs.List.{enumerate_from}
 use Rattle.std.specs.Option.{option_map, option_map_or, option_and_then}
@@ -11,13 +11,13 @@ use Rattle.il_code.specs.declared.body.ClauseKind.TheVariants.{Catch, Filter, Fi
 use Rattle.il_code.specs.Reach.{tries}
 use Rattle.ty_terms.specs.declared.ty.Ty.{Ty}
 use Rattle.ty_names.specs.Modules.{World}
-use Rattle.il_verify.specs.Ranges.{is_finally_kind}
-use Rattle.il_verify.specs.Scope.{system, type_token}
-use Rattle.cil_world.specs.Entering.{Entry, entry}
-use Rattle.cil_world.specs.ObjectSteps.{fits_type, type_of_object}
+use Rattle.il_verify.specs.Ranges.{holds, is_finally_kind, Try}
+use Rattle.il_verify.specs.Scope.{type_token}
+use Rattle.cil_world.specs.Entering.{Entry, entry_of_running}
+use Rattle.cil_world.specs.ObjectSteps.{fits_type, is_exception, type_of_object}
 use Rattle.cil_world.specs.State.{CilState, Frame, Running, Code, Initializes, Makes, Invokes, Goal, GoTo, CatchIn}
-use Rattle.cil_world.specs.State.{Pending, Caught, Going, Searching, Unwinding, change_top, frame_at, with_frames}
-use Rattle.cil_world.specs.State.{with_phase}
+use Rattle.cil_world.specs.State.{Pending, Caught, Going, Searching, Unwinding, change_top, frame_at, frames_from}
+use Rattle.cil_world.specs.State.{with_frames, with_phase, catches_at, triggers_at, waits_at}
 use Rattle.cil_world.specs.Values.{Value, Reference}
 
 -- ---- the clauses of a frame
@@ -42,12 +42,6 @@ inner_first (clause ∷ rest) = placed_inside clause (inner_first rest)
 abbrev pub clauses_with : ℕ → Entry → List Numbered
 clauses_with offset found = inner_first (filter (λ clause. tries offset clause.1) (enumerate_from 0 found.body.clauses))
 
-abbrev pub entry_of_running : World → Running → Option Entry
-entry_of_running world (Code name) = entry world name
-entry_of_running world (Initializes ty resumes) = None
-entry_of_running world (Makes ty) = None
-entry_of_running world (Invokes name) = None
-
 -- the clauses whose try range holds a frame's offset, the inner ones first
 abbrev pub clauses_of : World → Frame → List Numbered
 clauses_of world frame = option_map_or (clauses_with frame.offset) (entry_of_running world frame.runs) []
@@ -55,15 +49,16 @@ clauses_of world frame = option_map_or (clauses_with frame.offset) (entry_of_run
 abbrev pub all_clauses : World → Frame → List Clause
 all_clauses world frame = option_map_or (λ found. found.body.clauses) (entry_of_running world frame.runs) []
 
--- the sentence of a stub for an initializer at which it waits for it, with a catch of its own
-abbrev pub waits_at : ℕ
-waits_at = 2
+-- A stub has a catch of its own: that for an initializer while it waits for it, and the others also while an initializer
+-- runs that their call triggers. What a stub raises itself it doesn't catch.
+abbrev pub is_calling : ℕ → Bool
+is_calling offset = offset == waits_at || offset == triggers_at
 
 abbrev pub tests_of_running : Running → ℕ → ℕ → ℕ
 tests_of_running (Code name) count offset = count
 tests_of_running (Initializes ty resumes) count offset = if offset == waits_at then 1 else 0
-tests_of_running (Makes ty) count offset = 1
-tests_of_running (Invokes name) count offset = 1
+tests_of_running (Makes ty) count offset = if is_calling offset then 1 else 0
+tests_of_running (Invokes name) count offset = if is_calling offset then 1 else 0
 
 -- how many tests a frame has for a search
 abbrev pub tests_of : World → Frame → ℕ
@@ -82,9 +77,6 @@ abbrev pub test_behind : World → List Frame → ℕ → Option (ℕ × ℕ)
 test_behind world [] n = None
 test_behind world (frame ∷ below) n =
     if nat_lt (n + 1) (tests_of world frame) then Some (length below, n + 1) else first_test world below
-
-abbrev pub frames_from : List Frame → ℕ → List Frame
-frames_from frames number = drop (length frames - 1 - number) frames
 
 abbrev pub searches_at : Reference → CilState → Option (ℕ × ℕ) → Option CilState
 searches_at object state None = None
@@ -121,8 +113,7 @@ caught_by world state object frame n = caught_in frame.runs
     (option_and_then (λ found. option_and_then (λ clause.
     if catches world state object found clause then Some clause.0 else None)
     (slice_get (clauses_with frame.offset found) n)) (entry_of_running world frame.runs))
-    (option_map_or (λ ty. fits_type world ty (type_of_object world state object))
-    (system world (codes "Exception")) false)
+    (is_exception world state object)
 
 -- ---- unwinding
 
@@ -160,11 +151,12 @@ search_step world state object frame n =
 
 -- ---- moves inside a frame
 
-abbrev pub holds_offset : ℕ → Clause → Bool
-holds_offset offset clause = nat_le clause.handler_at offset && nat_lt offset clause.handler_end
+-- the handler of a clause holds an offset
+abbrev pub has_in_handler : ℕ → Clause → Bool
+has_in_handler offset clause = holds offset (record { begin = clause.handler_at; end = clause.handler_end; role = Try })
 
 abbrev pub handler_holds : List Clause → ℕ → ℕ → Bool
-handler_holds clauses offset number = option_map_or (holds_offset offset) (slice_get clauses number) false
+handler_holds clauses offset number = option_map_or (has_in_handler offset) (slice_get clauses number) false
 
 -- on to an offset, with a stack; of what was caught that stays whose handler holds the offset
 abbrev pub moved_to : World → ℕ → List Value → Frame → Frame
@@ -204,10 +196,6 @@ into_catch world clause object frame =
     with_caught (record { clause = clause; object = object })
     (with_pending (kept_pending world frame offset) (moved_to world offset (Value.Object object ∷ []) frame))
 
--- the sentence of a stub that has caught
-abbrev pub catches_at : ℕ
-catches_at = 4
-
 abbrev pub into_stub : Reference → Frame → Frame
 into_stub object frame = record frame { offset = catches_at; stack = Value.Object object ∷ [] }
 
@@ -234,19 +222,17 @@ unwind_step world state object frame clause left = unwind_frames world state obj
 
 -- ---- `leave` and `endfinally`
 
-abbrev pub is_finally_of : ClauseKind → Bool
-is_finally_of Catch = false
-is_finally_of Filter = false
-is_finally_of Finally = true
-is_finally_of Fault = false
-
-abbrev pub is_finally : Numbered → Bool
-is_finally clause = is_finally_of clause.1.kind
+abbrev pub is_left_through : ClauseKind → Bool
+is_left_through Catch = false
+is_left_through Filter = false
+is_left_through Finally = true
+is_left_through Fault = false
 
 -- the finally handlers that `leave` to an offset runs; it passes fault handlers by
 abbrev pub left_by : World → Frame → ℕ → List ℕ
 left_by world frame target =
-    numbers_of (filter (λ clause. is_finally clause && not (tries target clause.1)) (clauses_of world frame))
+    numbers_of
+    (filter (λ clause. is_left_through clause.1.kind && not (tries target clause.1)) (clauses_of world frame))
 
 abbrev pub goes_on : World → List ℕ → ℕ → Frame → Frame
 goes_on world [] target frame = moved_to world target [] frame

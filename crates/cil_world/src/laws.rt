@@ -1,29 +1,47 @@
-//! Laws of runs of CIL. Each function does nothing, and ensures its laws of all values.
+//! Laws of runs of CIL, whole and trimmed, under every setting. Each function does nothing, and ensures its laws of all
+//! values.
 ghost use Rattle.std.specs.Prelude.{◌≡◌, ◌≤◌, ℕ, List};
-ghost use Rattle.num_core.specs.declared.bounds.Bounds.{Bounds};
-ghost use Rattle.num_core.specs.Run.{Ended, Stopped, Streams};
+ghost use Rattle.num_core.specs.Run.{Ended, Running, Stopped, Streams};
 ghost use Rattle.ty_names.specs.Modules.{World};
+ghost use Rattle.cil_world.specs.Entering.{bytes_of_frames};
 ghost use Rattle.cil_world.specs.Later.{IsLater, streams_of};
-ghost use Rattle.cil_world.specs.State.{CilCause, CilState};
-ghost use Rattle.cil_world.specs.Step.{cil_run, cil_step};
+ghost use Rattle.cil_world.specs.State.{CilCause, CilState, Setting};
+ghost use Rattle.cil_world.specs.Step.{cil_step, run_under};
 
 /// A run that is over stays as it is.
 pub fn ended_runs()
     // it has ended with a status
-    ensures ended { (world : World) (bounds : Bounds) (input : List ℕ) (n m status : ℕ) (streams : Streams) → n ≤ m →
-        cil_run world bounds input n ≡ Ended status streams → cil_run world bounds input m ≡ Ended status streams }
+    ensures ended { (world : World) (setting : Setting) (input : List ℕ) (n m status : ℕ) (streams : Streams) → n ≤ m →
+        run_under world setting input n ≡ Ended status streams → run_under world setting input m ≡ Ended status streams }
     // it can't go on
-    ensures stopped { (world : World) (bounds : Bounds) (input : List ℕ) (n m : ℕ) (cause : CilCause)
+    ensures stopped { (world : World) (setting : Setting) (input : List ℕ) (n m : ℕ) (cause : CilCause)
         (streams : Streams) → n ≤ m →
-        cil_run world bounds input n ≡ Stopped cause streams → cil_run world bounds input m ≡ Stopped cause streams }
+        run_under world setting input n ≡ Stopped cause streams → run_under world setting input m ≡ Stopped cause streams }
 {}
 
 /// What was written stays written, and what was read isn't there to be read again.
 pub fn later_streams()
     // by one step, from any state
-    ensures by_a_step { (world : World) (bounds : Bounds) (state : CilState) (streams : Streams) →
-        IsLater streams (streams_of (cil_step world bounds state streams)) }
+    ensures by_a_step { (world : World) (setting : Setting) (state : CilState) (streams : Streams) →
+        IsLater streams (streams_of (cil_step world setting state streams)) }
     // from a moment of a run to a later one
-    ensures by_a_run { (world : World) (bounds : Bounds) (input : List ℕ) (n m : ℕ) → n ≤ m →
-        IsLater (streams_of (cil_run world bounds input n)) (streams_of (cil_run world bounds input m)) }
+    ensures by_a_run { (world : World) (setting : Setting) (input : List ℕ) (n m : ℕ) → n ≤ m →
+        IsLater (streams_of (run_under world setting input n)) (streams_of (run_under world setting input m)) }
+{}
+
+/// The heap and the stack: what is used of the heap never falls, since no object is given back, and neither passes its
+/// bound.
+pub fn bounded_runs()
+    // by one step, from any state
+    ensures grows_by_a_step { (world : World) (setting : Setting) (state state' : CilState) (streams streams' : Streams) →
+        cil_step world setting state streams ≡ Running state' streams' → state.heap ≤ state'.heap }
+    // from a moment of a run to a later one
+    ensures grows_by_a_run { (world : World) (setting : Setting) (input : List ℕ) (n m : ℕ) (state state' : CilState)
+        (streams streams' : Streams) → n ≤ m →
+        run_under world setting input n ≡ Running state streams →
+        run_under world setting input m ≡ Running state' streams' → state.heap ≤ state'.heap }
+    // at each moment of a run
+    ensures in_bounds { (world : World) (setting : Setting) (input : List ℕ) (n : ℕ) (state : CilState)
+        (streams : Streams) → run_under world setting input n ≡ Running state streams →
+        (state.heap ≤ setting.bounds.heap) × (bytes_of_frames world state.frames ≤ setting.bounds.stack) }
 {}

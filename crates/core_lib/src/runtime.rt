@@ -1,6 +1,8 @@
 /// What a method of the core does that has no CIL.
 #[derive(Clone, Copy, Debug, PartialEq, Eq)]
 pub enum RuntimeCall {
+    /// `Type Object.GetType()`: the Type of the object's type.
+    ObjectGetType,
     /// `int Object.GetHashCode()`: how many bytes of the heap were used before the object was made, divided by 8.
     ObjectGetHashCode,
     /// `int String.Length`: how many units it has.
@@ -17,4 +19,14 @@ pub enum RuntimeCall {
     ConsoleWrite,
     /// `int Console.$Read()`: reads a byte, or is -1 at the end of the input.
     ConsoleRead,
+    /// `Type Type.GetType(string)`: the Type of a full name, or null.
+    TypeGetType,
+    /// `string Type.FullName`: the full name of a type.
+    TypeGetFullName,
+    /// `object Activator.CreateInstance(Type)`: makes an object by a constructor that takes nothing.
+    CreateInstance,
+    /// `MethodInfo Type.GetMethod(string)`: the public method of a name, or null.
+    TypeGetMethod,
+    /// `object MethodBase.Invoke(object, object[])`: calls the method.
+    MethodInvoke,
 }
