@@ -1,8 +1,8 @@
 -- Types that are loaded one after another, and what is found of each.
 use Rattle.std.proofs.Common.{◌≡◌, ◌∙◌, All, Bool, true, false, List, [], ◌∷◌, ◌++◌, Option, Some, None, Result}
-use Rattle.std.proofs.Common.{Ok, Err, refl, sym, ap, subst, append_assoc, find}
+use Rattle.std.proofs.Common.{Ok, Err, refl, sym, ap, ap₂, subst, append_assoc, find}
 use Rattle.std.proofs.lemmas.List.Elements.{All-nil, All-cons, All-head, All-tail, All-weaker}
-use Rattle.std.specs.Prelude.{cond, unwrap_or}
+use Rattle.std.specs.Prelude.{IfOk, cond, unwrap_or}
 use Rattle.std.specs.Option.{option_map}
 use Rattle.std.specs.Ordering.{eq_by_cmp, is_eq}
 use Rattle.std.specs.declared.cmp.Ordering.{Ordering}
@@ -12,10 +12,14 @@ use Rattle.ty_terms.specs.Order.{order}
 use Rattle.ty_layout.specs.Fields.{AreLaid}
 use Rattle.cli_layout.specs.declared.extent.Unlaid.{Unlaid}
 use Rattle.cli_layout.specs.declared.fault.LayoutFault.{LayoutFault}
+use Rattle.cli_layout.specs.declared.fault.LayoutFault.TheVariants.{ObjectLimit, NoBase, NoField, Memory}
+use Rattle.cli_layout.specs.declared.loading.CliLayout.{CliLayout}
+use Rattle.ty_names.specs.Modules.{World}
+use Rattle.ty_terms.specs.Exact.{IsExactOrder}
 use Rattle.cli_layout.specs.declared.rows.Loaded.{Loaded}
 use Rattle.cli_layout.specs.declared.rows.TypeLayout.{TypeLayout}
-use Rattle.cli_layout.specs.Loading.{AreFound, IsLoaded, IsSmall, IsSmallOne, layout_in, layout_or, loaded_by, why, with_next}
-use Rattle.cli_layout.specs.Types.{bare}
+use Rattle.cli_layout.specs.Loading.{AreFound, Gives, loaded, with_statics, IsLoaded, IsSmall, IsSmallOne, layout_in, layout_or, loaded_by, why, with_next}
+use Rattle.cli_layout.specs.Types.{bare, laid_of, statics_of}
 
 -- those that are loaded, in front of what comes of the others
 abbrev pub in_front : List Loaded → Result (List Loaded) LayoutFault → Result (List Loaded) LayoutFault
@@ -108,3 +112,70 @@ are_loaded lay loaded types laid small finds =
     (λ ty f. record {
       layout = f.0; found = f.1; laid = laid ty f.0 f.2; small = small_found loaded ty f.0 small f.1
     }) types finds
+
+-- ---- what is told by both lists
+
+pub all_found : IsExactOrder order → (lay : Ty → Result TypeLayout Unlaid) (slice types : List Ty)
+    (answer : Result (List Loaded) LayoutFault) (loaded : List Loaded) → slice ≡ types
+    → Gives (loaded_by lay slice) answer → answer ≡ Ok loaded → All (Finds lay loaded) types
+all_found law lay slice types answer loaded same told is =
+    subst (All (Finds lay loaded)) same
+    (finds_all (λ a b e. (law.exact a b).0 e) (λ a. (law.exact a a).1 refl) lay slice loaded
+    (subst (λ e. Gives (loaded_by lay slice) e) is told))
+
+pub all_small : (answer : Result (List Loaded) LayoutFault) (loaded : List Loaded)
+    → IfOk answer (All IsSmallOne) → answer ≡ Ok loaded → All IsSmallOne loaded
+all_small answer loaded small is = subst (λ e. IfOk e (All IsSmallOne)) is small
+
+module _ (world : World) (slice types slice' statics : List Ty) (types_answer statics_answer : Result (List Loaded) LayoutFault)
+    (same : slice ≡ types) (same' : slice' ≡ statics)
+    (types_told : Gives (loaded_by (laid_of world) slice) types_answer)
+    (statics_told : Gives (loaded_by (statics_of world) slice') statics_answer) where
+  moved : Gives (loaded_by (laid_of world) types) types_answer
+  moved = subst (λ l. Gives (loaded_by (laid_of world) l) types_answer) same types_told
+
+  moved' : Gives (loaded_by (statics_of world) statics) statics_answer
+  moved' = subst (λ l. Gives (loaded_by (statics_of world) l) statics_answer) same' statics_told
+
+  pub both_loaded : (ts ss : List Loaded) → types_answer ≡ Ok ts → statics_answer ≡ Ok ss
+      → loaded world types statics ≡ Ok (record { types = ts; statics = ss })
+  unfolding loaded
+  both_loaded ts ss t s =
+      ap₂ with_statics (subst (λ e. Gives (loaded_by (laid_of world) types) e) t moved)
+      (subst (λ e. Gives (loaded_by (statics_of world) statics) e) s moved')
+
+  statics_fail : (ts : List Loaded) (fault : LayoutFault) → types_answer ≡ Ok ts
+      → Gives (loaded_by (statics_of world) statics) (Err fault) → Gives (loaded world types statics) (Err fault)
+  unfolding loaded
+  statics_fail ts (ObjectLimit ty) t told =
+      ap₂ with_statics (subst (λ e. Gives (loaded_by (laid_of world) types) e) t moved) told
+  statics_fail ts (NoBase id) t told =
+      ap₂ with_statics (subst (λ e. Gives (loaded_by (laid_of world) types) e) t moved) told
+  statics_fail ts (NoField id row) t told =
+      ap₂ with_statics (subst (λ e. Gives (loaded_by (laid_of world) types) e) t moved) told
+  statics_fail ts Memory t told = tt
+
+  pub statics_failed : (ts : List Loaded) (fault : LayoutFault) (result : Result CliLayout LayoutFault)
+      → types_answer ≡ Ok ts → statics_answer ≡ Err fault → result ≡ Err fault
+      → Gives (loaded world types statics) result
+  statics_failed ts fault result t s r =
+      subst (λ e. Gives (loaded world types statics) e) (sym r)
+      (statics_fail ts fault t (subst (λ e. Gives (loaded_by (statics_of world) statics) e) s moved'))
+
+module _ (world : World) (slice types statics : List Ty) (types_answer : Result (List Loaded) LayoutFault)
+    (same : slice ≡ types) (types_told : Gives (loaded_by (laid_of world) slice) types_answer) where
+  types_fail : (fault : LayoutFault) → Gives (loaded_by (laid_of world) types) (Err fault)
+      → Gives (loaded world types statics) (Err fault)
+  unfolding loaded
+  types_fail (ObjectLimit ty) told = ap (λ e. with_statics e (loaded_by (statics_of world) statics)) told
+  types_fail (NoBase id) told = ap (λ e. with_statics e (loaded_by (statics_of world) statics)) told
+  types_fail (NoField id row) told = ap (λ e. with_statics e (loaded_by (statics_of world) statics)) told
+  types_fail Memory told = tt
+
+  pub types_failed : (fault : LayoutFault) (result : Result CliLayout LayoutFault) → types_answer ≡ Err fault
+      → result ≡ Err fault → Gives (loaded world types statics) result
+  types_failed fault result t r =
+      subst (λ e. Gives (loaded world types statics) e) (sym r)
+      (types_fail fault
+      (subst (λ l. Gives (loaded_by (laid_of world) l) (Err fault)) same
+      (subst (λ e. Gives (loaded_by (laid_of world) slice) e) t types_told)))

@@ -1,13 +1,17 @@
 -- The parts of an object, class by class.
-use Rattle.std.proofs.Common.{◌≡◌, ◌∙◌, ℕ, zero, suc, ◌-◌, Bool, true, false, arith, List, [], ◌∷◌, ◌++◌, Option, Some, None, Result, Ok, Err, map, refl}
+use Rattle.std.proofs.Common.{◌≡◌, ◌≢◌, ◌∙◌, ℕ, suc, ◌-◌, Bool, true, false, arith, rules, List, [], ◌∷◌, ◌++◌, Option, Some, None, Result, Ok, Err, map, refl}
 use Rattle.std.proofs.Common.{sym, ap, ap₂, subst}
-use Rattle.std.specs.Prelude.{◌==◌}
+use Rattle.std.specs.Prelude.{if◌then◌else◌}
 use Rattle.std.specs.Option.{option_map_or}
 use Rattle.ty_terms.specs.declared.names.TypeId.{TypeId}
 use Rattle.ty_terms.specs.declared.ty.Ty.{Ty}
+use Rattle.ty_terms.specs.declared.ty.Ty.TheVariants.{Named}
+use Rattle.ty_terms.specs.declared.ty.Ty.TheOpen.{Ty-F}
+use Rattle.ty_terms.specs.declared.ty.Ty.TheViews.{out-Ty, the_lemmas}
 use Rattle.ty_layout.specs.declared.field.Field.{Field}
 use Rattle.ty_names.specs.Modules.{World}
 use Rattle.ty_load.specs.declared.fault.ResolveFault.{ResolveFault}
+use Rattle.ty_load.specs.Bases.{is_value_type}
 use Rattle.ty_load.specs.Primitives.{definition_of}
 use Rattle.ty_load.specs.Walks.{arguments, base_by}
 use Rattle.cli_layout.specs.declared.extent.Extent.{Extent}
@@ -19,19 +23,19 @@ use Rattle.cli_layout.specs.declared.rows.FieldRow.{FieldRow}
 use Rattle.cli_layout.specs.declared.rows.Base.{Base}
 use Rattle.cli_layout.specs.declared.rows.Base.TheVariants.{Nothing, Of, Missing}
 use Rattle.cli_layout.specs.declared.rows.TypeLayout.{TypeLayout}
-use Rattle.cli_layout.specs.Extents.{both, extent_with}
+use Rattle.cli_layout.specs.Extents.{both, extent_in, extent_with, most_within}
 use Rattle.cli_layout.specs.Fields.{placed_fields}
 use Rattle.cli_layout.specs.Told.{Tells, told_base}
-use Rattle.cli_layout.specs.Types.{fields_in, laid_if, parts_above, parts_over, parts_within, under, within}
+use Rattle.cli_layout.specs.Types.{class_laid, fields_in, laid_if, laid_layer, laid_of, value_laid}
+use Rattle.cli_layout.specs.Types.{parts_above, parts_over, parts_within, under, within}
 
 abbrev Parts : Type 0
 Parts = List (List Field)
 
 -- ---- a class and those above it
 
-pub positive : (n : ℕ) → (n == 0) ≡ false → n ≡ suc (n - 1)
-positive zero is = absurd (let h : true ≡ false = is in cc)
-positive (suc n) is = omega arith
+pub positive : (n : ℕ) → n ≢ 0 → n ≡ suc (n - 1)
+positive n is = omega arith
 
 -- what is told of a class's own fields, and of the classes above it
 module _ (left k : ℕ) (world : World) (id : TypeId) (env : List Extent) (rows : List FieldRow)
@@ -119,8 +123,9 @@ module _ (left : ℕ) (world : World) (env : List Extent) (id : TypeId) where
   missing_by (Ok None) is = absurd (let h : Nothing ≡ Missing = is in cc)
   missing_by (Ok (Some base)) is = absurd (let h : Of base ≡ Missing = is in cc)
 
-  pub missing : told_base (base_by world id) ≡ Missing → parts_over left world env id ≡ Err (NoBase id)
-  missing is = missing_by (base_by world id) is
+  pub missing : (base : Base) → base ≡ told_base (base_by world id) → base ≡ Missing
+      → parts_over left world env id ≡ Err (NoBase id)
+  missing base told is = missing_by (base_by world id) (sym told ∙ is)
 
   nothing_by : (base : Result (Option Ty) ResolveFault) → told_base base ≡ Nothing
       → parts_above (parts_within left world) world env id base ≡ Ok []
@@ -128,8 +133,10 @@ module _ (left : ℕ) (world : World) (env : List Extent) (id : TypeId) where
   nothing_by (Ok None) is = refl
   nothing_by (Ok (Some base)) is = absurd (let h : Of base ≡ Nothing = is in cc)
 
-  pub nothing : told_base (base_by world id) ≡ Nothing → parts_over left world env id ≡ Ok []
-  nothing is = nothing_by (base_by world id) is
+  pub nothing : (base : Base) (result : Parts) → base ≡ told_base (base_by world id) → base ≡ Nothing → result ≡ []
+      → parts_over left world env id ≡ Ok result
+  nothing base result told is empty =
+      nothing_by (base_by world id) (sym told ∙ is) ∙ ap (λ l. Ok l) (sym empty)
 
   of_by : (base : Result (Option Ty) ResolveFault) (ty : Ty) → told_base base ≡ Of ty
       → parts_above (parts_within left world) world env id base
@@ -141,23 +148,27 @@ module _ (left : ℕ) (world : World) (env : List Extent) (id : TypeId) where
       ap (λ t. option_map_or (λ above. parts_within left world above (map (extent_with world env) (arguments t)))
       (definition_of world t) (Ok [])) (let h : Of base ≡ Of ty = is in let e : base ≡ ty = cc in e)
 
-  pub undefined : (ty : Ty) → told_base (base_by world id) ≡ Of ty → definition_of world ty ≡ None
-      → parts_over left world env id ≡ Ok []
-  undefined ty is none =
-      of_by (base_by world id) ty is
+  pub undefined : (base : Base) (ty : Ty) (found : Option TypeId) (result : Parts)
+      → base ≡ told_base (base_by world id) → base ≡ Of ty → found ≡ definition_of world ty → found ≡ None
+      → result ≡ [] → parts_over left world env id ≡ Ok result
+  undefined base ty found result told is same none empty =
+      of_by (base_by world id) ty (sym told ∙ is)
       ∙ ap (λ d. option_map_or (λ above. parts_within left world above (map (extent_with world env) (arguments ty))) d
-      (Ok [])) none
+      (Ok [])) (sym same ∙ none)
+      ∙ ap (λ l. Ok l) (sym empty)
 
-  pub defined : (ty : Ty) (above : TypeId) (args : List Extent) (result : Result Parts Fault)
-      → told_base (base_by world id) ≡ Of ty → definition_of world ty ≡ Some above
-      → args ≡ map (extent_with world env) (arguments ty) → Tells (parts_within left world above args) result
+  pub defined : (base : Base) (ty : Ty) (found : Option TypeId) (above : TypeId) (k : ℕ) (types : List Ty)
+      (args : List Extent) (result : Result Parts Fault) → base ≡ told_base (base_by world id) → base ≡ Of ty
+      → found ≡ definition_of world ty → found ≡ Some above → k ≡ most_within world → types ≡ arguments ty
+      → args ≡ map (extent_in k world env) types → Tells (parts_within left world above args) result
       → Tells (parts_over left world env id) result
-  defined ty above args result is some same told =
+  defined base ty found above k types args result told is same some count written given answer =
       subst (λ r. Tells r result)
-      (ap (parts_within left world above) same
+      (ap (parts_within left world above)
+      (given ∙ ap (λ n. map (extent_in n world env) types) count ∙ ap (map (extent_with world env)) written)
       ∙ ap (λ d. option_map_or (λ a. parts_within left world a (map (extent_with world env) (arguments ty))) d (Ok []))
-      (sym some)
-      ∙ sym (of_by (base_by world id) ty is)) told
+      (sym some ∙ same)
+      ∙ sym (of_by (base_by world id) ty (sym told ∙ is))) answer
 
 -- ---- a type by its parts
 
@@ -189,3 +200,26 @@ module _ (in_object : ℕ → ℕ) (lay : List Field → TypeLayout) (world : Wo
   is_laid part result o t =
       subst (λ e. Tells e result)
       (sym (ap (laid_if in_object lay) (subst (λ e. Tells (fields_in world env id fields) e) o moved))) t
+
+-- ---- what is told of a type by its layer
+
+module _ (world : World) (ty : Ty) (id : TypeId) (args : List Ty) (result : Result TypeLayout Fault)
+    (is : ty ≡ Named id args) where
+  named_out : out-Ty ty ≡ Ty-F.Named id args
+  named_out = search (rules, the_lemmas)
+
+  by_kind : (b : Bool) → is_value_type world id ≡ b
+      → Tells (if b then value_laid world ty id else class_laid world ty id) result → Tells (laid_of world ty) result
+  unfolding laid_of
+  by_kind b value told =
+      subst (λ e. Tells e result)
+      (sym (ap (laid_layer world ty) named_out
+      ∙ ap (λ k. if k then value_laid world ty id else class_laid world ty id) value)) told
+
+  pub of_value : is_value_type world id ≡ true → Tells (value_laid world ty id) result
+      → Tells (laid_of world ty) result
+  of_value value told = by_kind true value told
+
+  pub of_class : is_value_type world id ≡ false → Tells (class_laid world ty id) result
+      → Tells (laid_of world ty) result
+  of_class value told = by_kind false value told
