@@ -3,3 +3,4 @@ pub mod ExtentLaws
 pub mod PartLaws
 pub mod Loads
 pub mod LaidTypes
+pub mod Instances

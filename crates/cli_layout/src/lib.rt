@@ -5,6 +5,7 @@ mod definitions;
 mod extent;
 mod extents;
 mod fault;
+pub mod laws;
 mod loading;
 mod objects;
 mod rows;
