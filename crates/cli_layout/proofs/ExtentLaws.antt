@@ -1,6 +1,7 @@
 -- What types and value types take, one step at a time.
-use Rattle.std.proofs.Common.{◌≡◌, ◌∙◌, ℕ, zero, suc, ◌≤◌, ◌<◌, max, Bool, true, List, [], ◌∷◌, map, length, get_or, Result}
+use Rattle.std.proofs.Common.{◌≡◌, ◌∙◌, ℕ, zero, suc, ◌≤◌, ◌<◌, max, Bool, true, List, [], ◌∷◌, ◌++◌, map, length, get_or, Result}
 use Rattle.std.proofs.Common.{refl, sym, ap, subst, arith}
+use Rattle.std.proofs.lemmas.List.Elements.{All-push}
 use Rattle.std.specs.Prelude.{IfOk, if◌then◌else◌}
 use Rattle.num_core.specs.declared.memory.Memory.{Memory}
 use Rattle.ty_terms.specs.declared.names.TypeId.{TypeId}
@@ -14,11 +15,9 @@ use Rattle.cli_layout.specs.declared.extent.Extent.{Extent}
 use Rattle.cli_layout.specs.declared.extent.Extent.TheVariants.{Known}
 use Rattle.cli_layout.specs.Extents.{all_known, extent_in, extent_step, reference, rows_extents, value_extent}
 use Rattle.cli_layout.specs.Extents.{extent_with, most_within, value_within}
-use Rattle.cli_layout.specs.Told.{Tells}
-use Rattle.cli_layout.specs.Types.{fields_in}
-use Rattle.cli_layout.specs.declared.fault.Fault.{Fault}
+use Rattle.cli_layout.specs.Seen.{AreTrueOf, IsTrueOf}
+use Rattle.cli_layout.specs.declared.seen.Seen.{Seen}
 use Rattle.cli_layout.specs.declared.rows.FieldRow.{FieldRow}
-use Rattle.ty_layout.specs.declared.field.Field.{Field}
 use Rattle.cli_layout.specs.Fields.{asked_size, placed_fields}
 
 extent_named : (left : ℕ) (world : World) (env : List Extent) (id : TypeId) (args : List Ty)
@@ -40,15 +39,12 @@ named_told left world env ty id types args result is value same told =
     ∙ ap (extent_in left world env) (sym is)) told
 
 -- a value type takes what its fields make it take, over one definition less
-pub value_told : (left k : ℕ) (world : World) (id : TypeId) (env extents : List Extent)
-    (result : Result Extent Memory) → left ≡ suc k
+pub value_is : (left k : ℕ) (world : World) (id : TypeId) (env extents : List Extent) (extent : Extent) → left ≡ suc k
     → extents ≡ rows_extents (extent_in k world env) id (placed_fields world id)
-    → IfOk result (λ extent. extent ≡ value_extent (asked_size world id) (all_known extents))
-    → IfOk result (λ extent. extent ≡ value_within left world id env)
-value_told left k world id env extents result is same told =
-    subst (λ e. IfOk result (λ extent. extent ≡ e))
-    (ap (λ l. value_extent (asked_size world id) (all_known l)) same ∙ ap (λ n. value_within n world id env) (sym is))
-    told
+    → extent ≡ value_extent (asked_size world id) (all_known extents) → extent ≡ value_within left world id env
+value_is left k world id env extents extent is same told =
+    told ∙ ap (λ l. value_extent (asked_size world id) (all_known l)) same
+    ∙ ap (λ n. value_within n world id env) (sym is)
 
 -- so many definitions as there are
 pub all_told : (k : ℕ) (world : World) (env : List Extent) (types : List Ty) (result : Result (List Extent) Memory)
@@ -57,12 +53,20 @@ pub all_told : (k : ℕ) (world : World) (env : List Extent) (types : List Ty) (
 all_told k world env types result is told =
     subst (λ n. IfOk result (λ extents. extents ≡ map (extent_in n world env) types)) is told
 
-pub fields_told : (k : ℕ) (world : World) (env extents : List Extent) (id : TypeId) (fields : List FieldRow)
-    (result : Result (List Field) Fault) → k ≡ most_within world
-    → extents ≡ rows_extents (extent_in k world env) id fields → Tells (all_known extents) result
-    → Tells (fields_in world env id fields) result
-fields_told k world env extents id fields result is same told =
-    subst (λ l. Tells (all_known l) result) (same ∙ ap (λ n. rows_extents (extent_in n world env) id fields) is) told
+pub rows_told : (k : ℕ) (world : World) (env : List Extent) (id : TypeId) (fields : List FieldRow)
+    (result : Result (List Extent) Memory) → k ≡ most_within world
+    → IfOk result (λ extents. extents ≡ rows_extents (extent_in k world env) id fields)
+    → IfOk result (λ extents. extents ≡ rows_extents (extent_with world env) id fields)
+rows_told k world env id fields result is told =
+    subst (λ n. IfOk result (λ extents. extents ≡ rows_extents (extent_in n world env) id fields)) is told
+
+-- what is noted is true, too
+pub note_told : (world : World) (seen more : List Seen) (left : ℕ) (id : TypeId) (env : List Extent) (extent : Extent)
+    → AreTrueOf world seen → extent ≡ value_within left world id env
+    → more ≡ seen ++ (record { left = left; id = id; args = env; extent = extent } ∷ []) → AreTrueOf world more
+note_told world seen more left id env extent all is added =
+    subst (AreTrueOf world) (sym added)
+    (All-push (IsTrueOf world) seen (record { left = left; id = id; args = env; extent = extent }) all is)
 
 -- a type of a list is no deeper than the deepest
 pub no_deeper : (types : List Ty) (i : ℕ) (d : Ty) → i < length types → depth_of (get_or types i d) ≤ depth_of_all types

@@ -4,3 +4,4 @@ pub mod PartLaws
 pub mod Loads
 pub mod LaidTypes
 pub mod Instances
+pub mod Same

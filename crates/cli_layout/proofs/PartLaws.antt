@@ -23,7 +23,7 @@ use Rattle.cli_layout.specs.declared.rows.FieldRow.{FieldRow}
 use Rattle.cli_layout.specs.declared.rows.Base.{Base}
 use Rattle.cli_layout.specs.declared.rows.Base.TheVariants.{Nothing, Of, Missing}
 use Rattle.cli_layout.specs.declared.rows.TypeLayout.{TypeLayout}
-use Rattle.cli_layout.specs.Extents.{both, extent_in, extent_with, most_within}
+use Rattle.cli_layout.specs.Extents.{both, extent_with}
 use Rattle.cli_layout.specs.Fields.{placed_fields}
 use Rattle.cli_layout.specs.Told.{Tells, told_base}
 use Rattle.cli_layout.specs.Types.{class_laid, fields_in, laid_if, laid_layer, laid_of, value_laid}
@@ -157,15 +157,15 @@ module _ (left : ℕ) (world : World) (env : List Extent) (id : TypeId) where
       (Ok [])) (sym same ∙ none)
       ∙ ap (λ l. Ok l) (sym empty)
 
-  pub defined : (base : Base) (ty : Ty) (found : Option TypeId) (above : TypeId) (k : ℕ) (types : List Ty)
+  pub defined : (base : Base) (ty : Ty) (found : Option TypeId) (above : TypeId) (types : List Ty)
       (args : List Extent) (result : Result Parts Fault) → base ≡ told_base (base_by world id) → base ≡ Of ty
-      → found ≡ definition_of world ty → found ≡ Some above → k ≡ most_within world → types ≡ arguments ty
-      → args ≡ map (extent_in k world env) types → Tells (parts_within left world above args) result
+      → found ≡ definition_of world ty → found ≡ Some above → types ≡ arguments ty
+      → args ≡ map (extent_with world env) types → Tells (parts_within left world above args) result
       → Tells (parts_over left world env id) result
-  defined base ty found above k types args result told is same some count written given answer =
+  defined base ty found above types args result told is same some written given answer =
       subst (λ r. Tells r result)
       (ap (parts_within left world above)
-      (given ∙ ap (λ n. map (extent_in n world env) types) count ∙ ap (map (extent_with world env)) written)
+      (given ∙ ap (map (extent_with world env)) written)
       ∙ ap (λ d. option_map_or (λ a. parts_within left world a (map (extent_with world env) (arguments ty))) d (Ok []))
       (sym some ∙ same)
       ∙ sym (of_by (base_by world id) ty (sym told ∙ is))) answer

@@ -1,7 +1,8 @@
 //! How many bytes a place of a type takes, and where it may begin.
 ghost use Rattle.std.specs.Prelude.{◌≡◌, ◌++◌, ◌∷◌, ◌≤◌, [], All, IfOk, OnOk, map, slice_index_or};
 ghost use Rattle.cli_layout.specs.Extents as places;
-ghost use Rattle.cli_layout.specs.Extents.{all_known, extent_in, reference, value_within};
+ghost use Rattle.cli_layout.specs.Extents.{all_known, extent_in, extent_with, reference, value_within};
+ghost use Rattle.cli_layout.specs.Seen.{AreTrueOf};
 ghost use Rattle.cli_layout.specs.Told.{Tells, depth_if};
 ghost use Rattle.cli_layout.specs.declared.extent.Extent.TheVariants.{Known};
 
@@ -9,6 +10,7 @@ use crate::definitions::Definitions;
 use crate::extent::{Extent, Unlaid};
 use crate::fault::Fault;
 use crate::rows::FieldRow;
+use crate::seen::{Seen, extent_seen, note_seen};
 use num_core::{List, Memory};
 use std::alloc::Global;
 use ty_layout::{Alignment, Field, ObjectFault, greatest_alignment, value_layout};
@@ -107,14 +109,17 @@ fn argument(env: &[Extent], number: u32) -> Extent
 
 /// What a place of a type takes, in a definition whose arguments have these places, over so many definitions at most.
 #[cycle(extents)]
-pub(crate) fn extent<D: Definitions>(
+fn extent<D: Definitions>(
     definitions: &D,
+    seen: &mut List<Seen>,
     alloc: Global,
     left: usize,
     env: &[Extent],
     ty: &Ty,
 ) -> Result<Extent, Memory>
-    ensures { IfOk result (λ extent. extent ≡ extent_in left (D.world definitions.now) env.now ty.now) }
+    requires { AreTrueOf (D.world definitions.now) seen.old }
+    ensures told { IfOk result (λ extent. extent ≡ extent_in left (D.world definitions.now) env.now ty.now) }
+    ensures seen { OnOk result (AreTrueOf (D.world definitions.now) seen.new) }
 {
     match ty {
         Ty::Prim(primitive) => Ok(Extent::Known(primitive_field(*primitive))),
@@ -122,8 +127,8 @@ pub(crate) fn extent<D: Definitions>(
             if !definitions.is_value(alloc, *id)? {
                 return Ok(Extent::Known(REFERENCE));
             }
-            let args = extents(definitions, alloc, left, env, args.as_slice())?;
-            value(definitions, alloc, left, *id, args.as_slice())
+            let args = extents(definitions, seen, alloc, left, env, args.as_slice())?;
+            value(definitions, seen, alloc, left, *id, args.as_slice())
         }
         Ty::Var(number) => Ok(argument(env, *number)),
         Ty::Vector(_) | Ty::ByRef(_) | Ty::MVar(_) | Ty::Canon => Ok(Extent::Known(REFERENCE)),
@@ -132,18 +137,23 @@ pub(crate) fn extent<D: Definitions>(
 
 /// The same of each type of a list.
 #[cycle(extents)]
-pub(crate) fn extents<D: Definitions>(
+fn extents<D: Definitions>(
     definitions: &D,
+    seen: &mut List<Seen>,
     alloc: Global,
     left: usize,
     env: &[Extent],
     types: &[Ty],
 ) -> Result<List<Extent>, Memory>
-    ensures { IfOk result (λ extents. extents ≡ map (extent_in left (D.world definitions.now) env.now) types.now) }
+    requires { AreTrueOf (D.world definitions.now) seen.old }
+    ensures told { IfOk result (λ extents.
+        extents ≡ map (extent_in left (D.world definitions.now) env.now) types.now) }
+    ensures seen { OnOk result (AreTrueOf (D.world definitions.now) seen.new) }
 {
     let mut done = List::new(alloc);
     for ty in types {
-        add(&mut done, extent(definitions, alloc, left, env, ty)?)?;
+        let found = extent(definitions, seen, alloc, left, env, ty)?;
+        add(&mut done, found)?;
     }
     Ok(done)
 }
@@ -152,42 +162,82 @@ pub(crate) fn extents<D: Definitions>(
 #[cycle(extents)]
 fn value<D: Definitions>(
     definitions: &D,
+    seen: &mut List<Seen>,
     alloc: Global,
     left: usize,
     id: TypeId,
     env: &[Extent],
 ) -> Result<Extent, Memory>
-    ensures { IfOk result (λ extent. extent ≡ value_within left (D.world definitions.now) id env.now) }
+    requires { AreTrueOf (D.world definitions.now) seen.old }
+    ensures told { IfOk result (λ extent. extent ≡ value_within left (D.world definitions.now) id env.now) }
+    ensures seen { OnOk result (AreTrueOf (D.world definitions.now) seen.new) }
 {
     if left == 0 {
         return Ok(Extent::Known(number(1, Alignment::One)));
     }
+    if let Some(extent) = extent_seen(seen.as_slice(), left, id, env) {
+        return Ok(extent);
+    }
     let fields = definitions.fields(alloc, id)?;
-    let extents = rows_extents(definitions, alloc, left - 1, env, id, fields.as_slice())?;
-    value_extent(alloc, extents.as_slice(), definitions.asked(id))
+    let extents = each_extent(definitions, seen, alloc, left - 1, env, id, fields.as_slice())?;
+    let extent = value_extent(alloc, extents.as_slice(), definitions.asked(id))?;
+    note_seen(seen, alloc, left, id, env, extent)?;
+    Ok(extent)
 }
 
 /// What the places of fields of a definition take.
 #[cycle(extents)]
-pub(crate) fn rows_extents<D: Definitions>(
+fn each_extent<D: Definitions>(
     definitions: &D,
+    seen: &mut List<Seen>,
     alloc: Global,
     left: usize,
     env: &[Extent],
     id: TypeId,
     fields: &[FieldRow],
 ) -> Result<List<Extent>, Memory>
-    requires { All (λ field. depth_if field.ty ≤ D.deepest definitions.now) fields.now }
-    ensures { IfOk result (λ extents. extents ≡
+    requires depth { All (λ field. depth_if field.ty ≤ D.deepest definitions.now) fields.now }
+    requires seen { AreTrueOf (D.world definitions.now) seen.old }
+    ensures told { IfOk result (λ extents. extents ≡
         places.rows_extents (extent_in left (D.world definitions.now) env.now) id fields.now) }
+    ensures seen { OnOk result (AreTrueOf (D.world definitions.now) seen.new) }
 {
     let mut done = List::new(alloc);
     for field in fields {
         let found = match &field.ty {
-            Some(ty) => extent(definitions, alloc, left, env, ty)?,
+            Some(ty) => extent(definitions, seen, alloc, left, env, ty)?,
             None => Extent::Unknown(Unlaid::NoField(id, field.row)),
         };
         add(&mut done, found)?;
     }
     Ok(done)
+}
+
+/// What the places of types take, in a definition whose arguments have these places.
+pub(crate) fn types_extents<D: Definitions>(
+    definitions: &D,
+    alloc: Global,
+    env: &[Extent],
+    types: &[Ty],
+) -> Result<List<Extent>, Memory>
+    ensures { IfOk result (λ extents. extents ≡ map (extent_with (D.world definitions.now) env.now) types.now) }
+{
+    let mut seen = List::new(alloc);
+    extents(definitions, &mut seen, alloc, definitions.count(), env, types)
+}
+
+/// What the places of fields of a definition take, whose arguments have these places.
+pub(crate) fn rows_extents<D: Definitions>(
+    definitions: &D,
+    alloc: Global,
+    env: &[Extent],
+    id: TypeId,
+    fields: &[FieldRow],
+) -> Result<List<Extent>, Memory>
+    requires { All (λ field. depth_if field.ty ≤ D.deepest definitions.now) fields.now }
+    ensures { IfOk result (λ extents. extents ≡
+        places.rows_extents (extent_with (D.world definitions.now) env.now) id fields.now) }
+{
+    let mut seen = List::new(alloc);
+    each_extent(definitions, &mut seen, alloc, definitions.count(), env, id, fields)
 }

@@ -9,6 +9,7 @@ pub mod laws;
 mod loading;
 mod objects;
 mod rows;
+mod seen;
 
 pub use definitions::Definitions;
 pub use extent::{Extent, Unlaid};

@@ -7,7 +7,7 @@ ghost use Rattle.ty_load.specs.Walks.{arguments as arguments_in};
 
 use crate::definitions::Definitions;
 use crate::extent::{Extent, Unlaid};
-use crate::extents::{add, extents, known_fields, primitive_field, rows_extents};
+use crate::extents::{add, known_fields, primitive_field, rows_extents, types_extents};
 use crate::fault::Fault;
 use crate::rows::{Base, FieldRow, TypeLayout};
 use num_core::{List, Memory};
@@ -26,14 +26,7 @@ fn fields_in<D: Definitions>(
     requires { All (λ field. depth_if field.ty ≤ D.deepest definitions.now) fields.now }
     ensures { Tells (layouts.fields_in (D.world definitions.now) env.now id fields.now) result }
 {
-    let extents = rows_extents(
-        definitions,
-        alloc,
-        definitions.count(),
-        env,
-        id,
-        fields,
-    )?;
+    let extents = rows_extents(definitions, alloc, env, id, fields)?;
     known_fields(alloc, extents.as_slice())
 }
 
@@ -87,7 +80,7 @@ fn parts_above<D: Definitions>(
     let Some(above) = definitions.definition(alloc, &base)? else {
         return Ok(List::new(alloc));
     };
-    let args = extents(definitions, alloc, definitions.count(), env, arguments(&base))?;
+    let args = types_extents(definitions, alloc, env, arguments(&base))?;
     parts(definitions, alloc, left, above, args.as_slice())
 }
 
@@ -109,7 +102,7 @@ fn arguments_of<D: Definitions>(
 ) -> Result<List<Extent>, Memory>
     ensures { IfOk result (λ extents. extents ≡ layouts.arguments_of (D.world definitions.now) ty.now) }
 {
-    extents(definitions, alloc, definitions.count(), &[], arguments(ty))
+    types_extents(definitions, alloc, &[], arguments(ty))
 }
 
 /// The fields of all parts.

@@ -52,6 +52,6 @@ parts_above-returns-in_default g t c =
 pub parts_above-returns : goal.parts_above-returns
 parts_above-returns g t c =
     defined c.args.left (g.D.Definitions.world c.args.definitions.now) c.args.env.now c.args.id c.in_ok-base.field-0
-    c.in-Of.base c.in_ok-above.field-0 c.in-Some.above c.count.result c.arguments.result.now c.as_slice.result.now
-    c.parts.result c.in_ok-base.ensures c.in-Of.is c.in_ok-above.ensures c.in-Some.is c.count.ensures
+    c.in-Of.base c.in_ok-above.field-0 c.in-Some.above c.arguments.result.now c.as_slice.result.now
+    c.parts.result c.in_ok-base.ensures c.in-Of.is c.in_ok-above.ensures c.in-Some.is
     c.arguments.ensures (search rules) c.parts.ensures
