@@ -13,6 +13,7 @@ pub mod Refusals
 pub mod Tokens
 pub mod Told
 pub mod Walks
+pub mod Classes
 pub mod Finding
 pub mod Search
 pub mod Attributes
