@@ -1,6 +1,6 @@
 -- Runs use no less of the heap than before, and pass neither bound.
 use Rattle.std.proofs.Common.{◌≡◌, ◌∙◌, ℕ, zero, suc, ◌+◌, ◌-◌, ◌≤◌, ◌==◌, ◌&&◌, Bool, true, false, nat_le, if◌then◌else◌}
-use Rattle.std.proofs.Common.{List, [], ◌∷◌, find, codes, Option, Some, None, Result, Ok, Err, option_map, refl, sym, ap}
+use Rattle.std.proofs.Common.{List, [], ◌∷◌, find, Option, Some, None, Result, Ok, Err, option_map, refl, sym, ap}
 use Rattle.std.proofs.Common.{subst, arith, le_refl, leb-true}
 use Rattle.std.specs.Option.{option_and_then, option_map_or}
 use Rattle.num_core.specs.Run.{Ended, Running as Goes, Stopped, Streams, after, one_more}
@@ -20,14 +20,13 @@ use Rattle.cil_world.specs.Entering.{has_stack, initializer_of, lays_out_frame, 
 use Rattle.cil_world.specs.State.{Begun, CilState, Code, Done, Failed, Frame, Going, Initializes, Initializing, Invokes, Makes}
 use Rattle.cil_world.specs.State.{Phase, Running, Searching, Setting, Unwinding, at_offset, begins_at, calls_at, catches_at}
 use Rattle.cil_world.specs.State.{change_top, initializing, returned_at, waits_at, with_frames, with_initializing}
-use Rattle.cil_world.specs.Step.{CilRun, at_instruction, begins_callee, begins_entry, begins_in, begins_name, begins_with}
-use Rattle.cil_world.specs.Step.{calls_initializer, cil_start, cil_step, core_exception, entry_args, fails_with}
-use Rattle.cil_world.specs.Step.{initializer_fails, initializer_frame, initializer_step, instruction_of, no_frames, performs}
+use Rattle.cil_world.specs.Step.{CilRun, at_instruction, begins_callee, begins_entry, begins_in, begins_name}
+use Rattle.cil_world.specs.Step.{calls_initializer, cil_start, cil_step, entry_args}
+use Rattle.cil_world.specs.Step.{initializer_fails, initializer_step, instruction_of, no_frames, performs}
 use Rattle.cil_world.specs.Step.{performs_in, phase_step, pushes_stub, run_under, running_instruction, running_step}
 use Rattle.cil_world.specs.Step.{stub_returns, tests_initializer, top_step}
-use Rattle.cil_world.specs.StubSteps.{invoking_step, making_step}
-use Rattle.cil_world.specs.Unwinding.{first_test, search_step, unwind_step}
-use Rattle.cil_world.specs.Values.{Reference, Value}
+use Rattle.cil_world.specs.Unwinding.{search_step, unwind_step}
+use Rattle.cil_world.specs.Values.{Value}
 use Rattle.cil_world.proofs.Keeping.{Keeps, KeepsState, Kept, and_then, did_then, popped, same, top_kept}
 use Rattle.cil_world.proofs.KeepingCalls.{enters_entry_kept, invoking_kept, making_kept}
 use Rattle.cil_world.proofs.KeepingSteps.{KeptRun, found_kept, instruction_kept, raises_kept, searched_kept, settles_kept}
