@@ -1,5 +1,6 @@
 -- Runs use no less of the heap than before, and pass neither bound.
-use Rattle.std.proofs.Common.{◌≡◌, ◌∙◌, ℕ, zero, suc, ◌+◌, ◌-◌, ◌≤◌, ◌==◌, ◌&&◌, Bool, true, false, nat_le, if◌then◌else◌}
+use Rattle.std.proofs.Common.{◌≡◌, ◌∙◌, ℕ, zero, suc, ◌+◌, ◌-◌, ◌≤◌, ◌==◌, ◌&&◌, Bool, true, false, nat_le}
+use Rattle.std.proofs.Common.{if◌then◌else◌}
 use Rattle.std.proofs.Common.{List, [], ◌∷◌, find, Option, Some, None, Result, Ok, Err, option_map, refl, sym, ap}
 use Rattle.std.proofs.Common.{subst, arith, le_refl, leb-true}
 use Rattle.std.specs.Option.{option_and_then, option_map_or}
@@ -16,9 +17,12 @@ use Rattle.il_verify.specs.Verified.{Typing, verification}
 use Rattle.cil_world.specs.CallSteps.{enters_entry, method_frame}
 use Rattle.cil_world.specs.Did.{pushed}
 use Rattle.cil_world.specs.Entering.{Entry, bytes_of_frames, bytes_of_running, entry, entry_bytes, entry_in, entry_with}
-use Rattle.cil_world.specs.Entering.{has_stack, initializer_of, lays_out_frame, most_bytes, next_object, stub_bytes, triggers}
-use Rattle.cil_world.specs.State.{Begun, CilState, Code, Done, Failed, Frame, Going, Initializes, Initializing, Invokes, Makes}
-use Rattle.cil_world.specs.State.{Phase, Running, Searching, Setting, Unwinding, at_offset, begins_at, calls_at, catches_at}
+use Rattle.cil_world.specs.Entering.{has_stack, initializer_of, lays_out_frame, most_bytes, next_object, stub_bytes}
+use Rattle.cil_world.specs.Entering.{triggers}
+use Rattle.cil_world.specs.State.{Begun, CilState, Code, Done, Failed, Frame, Going, Initializes, Initializing}
+use Rattle.cil_world.specs.State.{Invokes, Makes}
+use Rattle.cil_world.specs.State.{Phase, Running, Searching, Setting, Unwinding, at_offset, begins_at, calls_at}
+use Rattle.cil_world.specs.State.{catches_at}
 use Rattle.cil_world.specs.State.{change_top, initializing, returned_at, waits_at, with_frames, with_initializing}
 use Rattle.cil_world.specs.Step.{CilRun, at_instruction, begins_callee, begins_entry, begins_in, begins_name}
 use Rattle.cil_world.specs.Step.{calls_initializer, cil_start, cil_step, entry_args}
@@ -29,7 +33,8 @@ use Rattle.cil_world.specs.Unwinding.{search_step, unwind_step}
 use Rattle.cil_world.specs.Values.{Value}
 use Rattle.cil_world.proofs.Keeping.{Keeps, KeepsState, Kept, and_then, did_then, popped, same, top_kept}
 use Rattle.cil_world.proofs.KeepingCalls.{enters_entry_kept, invoking_kept, making_kept}
-use Rattle.cil_world.proofs.KeepingSteps.{KeptRun, found_kept, instruction_kept, raises_kept, searched_kept, settles_kept}
+use Rattle.cil_world.proofs.KeepingSteps.{KeptRun, found_kept, instruction_kept, raises_kept, searched_kept}
+use Rattle.cil_world.proofs.KeepingSteps.{settles_kept}
 use Rattle.cil_world.proofs.KeepingSteps.{settles_stub_kept, stub_kept, throws_kept, unwound_kept, unwound_or_kept}
 use Rattle.cil_world.proofs.Runs.{split}
 
@@ -128,7 +133,8 @@ module _ (world : World) (setting : Setting) where
   below_kept : (state : CilState) (top : Frame) (below : List Frame) → state.frames ≡ top ∷ below
       → KeepsState world setting state (with_frames below state)
   below_kept state top below is =
-      subst (λ from. Keeps world setting state.heap from state.heap below) (sym is) (popped world setting state.heap top below)
+      subst (λ from. Keeps world setting state.heap from state.heap below) (sym is)
+      (popped world setting state.heap top below)
 
   returns_kept : (resumes : Bool) (state : CilState) (streams : Streams) (top : Frame) (below : List Frame)
       → state.frames ≡ top ∷ below
@@ -218,7 +224,7 @@ module _ (world : World) (setting : Setting) where
       → cil_step world setting state streams ≡ Goes state' streams' → state.heap ≤ state'.heap
   step_grows state state' streams streams' is =
       let kept : KeepsState world setting state state' =
-          subst (KeptRun world setting state) is (step_kept state streams) in
+      subst (KeptRun world setting state) is (step_kept state streams) in
       kept.grows
 
   -- ---- runs
@@ -251,7 +257,8 @@ module _ (world : World) (setting : Setting) where
       → InBounds (if test then pushes_stub (has_stack world setting state.frames stub_bytes) ty false state streams
       else Goes state streams)
   stub_if true ty state streams is =
-      kept_in_bounds state (pushes_stub (has_stack world setting state.frames stub_bytes) ty false state streams) is.0 is.1
+      kept_in_bounds state (pushes_stub (has_stack world setting state.frames stub_bytes) ty false state streams) is.0
+      is.1
       (stub_kept world setting _ state ty false state streams refl (same world setting state))
   stub_if false ty state streams is = is
 
@@ -264,12 +271,14 @@ module _ (world : World) (setting : Setting) where
     where
       first : CilState
       first = pushed (method_frame world callee.name found (entry_args callee.params)) no_frames
+
       size : bytes_of_running world (Code callee.name) ≡ found.bytes
       size = ap (λ e. option_map_or (λ f. f.bytes) e 0) is
+
       fits : bytes_of_running world (Code callee.name) + 0 ≤ setting.bounds.stack
       fits =
           let enough : 0 + found.bytes ≤ setting.bounds.stack =
-              leb-true (0 + found.bytes) setting.bounds.stack (sym room) in
+          leb-true (0 + found.bytes) setting.bounds.stack (sym room) in
           omega (arith, size, enough)
 
   entry_in_bounds : (callee : Callee) (streams : Streams) (found : Option Entry) → entry world callee.name ≡ found

@@ -1,5 +1,5 @@
--- Small programs as worlds of two modules, each its own and a core of Object alone: ECMA-335 II.22, II.25.4. A core here
--- has no methods; what runs over it asks for none.
+-- Small programs as worlds of two modules, each its own and a core of Object alone: ECMA-335 II.22, II.25.4. This core
+-- has no methods, and what runs over it asks for none.
 use Rattle.std.specs.Prelude.{ℕ, List, [], ◌∷◌, codes, Option, Some, None}
 use Rattle.std.proofs.Common.{leb-true, refl}
 use Rattle.num_core.specs.declared.bounds.Bounds.{Bounds}
