@@ -17,12 +17,11 @@ use Rattle.il_verify.specs.Verified.{Typing, verification}
 use Rattle.cil_world.specs.CallSteps.{enters_entry, method_frame}
 use Rattle.cil_world.specs.Did.{pushed}
 use Rattle.cil_world.specs.Entering.{Entry, bytes_of_frames, bytes_of_running, entry, entry_bytes, entry_in, entry_with}
-use Rattle.cil_world.specs.Entering.{has_stack, initializer_of, lays_out_frame, most_bytes, next_object, stub_bytes}
-use Rattle.cil_world.specs.Entering.{triggers}
+use Rattle.cli_layout.specs.Extents.{most_bytes}
+use Rattle.cil_world.specs.Entering.{has_stack, initializer_of, lays_out_frame, next_object, stub_bytes, triggers}
 use Rattle.cil_world.specs.State.{Begun, CilState, Code, Done, Failed, Frame, Going, Initializes, Initializing}
-use Rattle.cil_world.specs.State.{Invokes, Makes}
-use Rattle.cil_world.specs.State.{Phase, Running, Searching, Setting, Unwinding, at_offset, begins_at, calls_at}
-use Rattle.cil_world.specs.State.{catches_at}
+use Rattle.cil_world.specs.State.{Invokes, Makes, Phase, Running, Searching, Setting, Unwinding, at_offset, begins_at}
+use Rattle.cil_world.specs.State.{calls_at, catches_at}
 use Rattle.cil_world.specs.State.{change_top, initializing, returned_at, waits_at, with_frames, with_initializing}
 use Rattle.cil_world.specs.Step.{CilRun, at_instruction, begins_callee, begins_entry, begins_in, begins_name}
 use Rattle.cil_world.specs.Step.{calls_initializer, cil_start, cil_step, entry_args}

@@ -16,7 +16,7 @@ use Rattle.il_verify.specs.Raises.{NullReference}
 use Rattle.il_verify.specs.Scope.{Scope, Callee, callee_of, method_token}
 use Rattle.cil_world.specs.Contents.{box_bytes, class_bytes, object_fields, stored, zero_of}
 use Rattle.cil_world.specs.Did.{Did, Raises, Moves, Triggers, Finishes, Ends, Cannot, on_some, pushes_frame}
-use Rattle.cil_world.specs.Dispatch.{implementation}
+use Rattle.ty_slots.specs.Implementations.{implementation}
 use Rattle.cil_world.specs.Entering.{Entry, HeapBound, Unchecked, entry, entry_of_running, has_room, may_lay_out}
 use Rattle.cil_world.specs.Entering.{next_object, with_object, triggers}
 use Rattle.cil_world.specs.ObjectSteps.{type_of_object, read_at}

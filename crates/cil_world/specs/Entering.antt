@@ -15,21 +15,24 @@ use Rattle.ty_terms.specs.declared.names.TypeId.{TypeId}
 use Rattle.ty_terms.specs.declared.ty.Ty.{Ty}
 use Rattle.ty_terms.specs.declared.ty.Ty.TheVariants.{Prim}
 use Rattle.ty_layout.specs.Frames.{frame_bytes}
-use Rattle.ty_layout.specs.Objects.{object}
 use Rattle.ty_names.specs.Modules.{World, tables_at}
-use Rattle.ty_names.specs.Definitions.{type_flags, has_flag, methods_of, method_name, fields_of}
-use Rattle.ty_names.specs.Definitions.{is_static_field, is_literal}
+use Rattle.ty_names.specs.Definitions.{type_flags, has_flag, methods_of, method_name}
 use Rattle.ty_load.specs.declared.fault.ResolveFault.{ResolveFault}
 use Rattle.ty_load.specs.Primitives.{definition_of}
-use Rattle.ty_load.specs.Cycles.{instance_fields}
+use Rattle.ty_load.specs.Classes.{classes_of}
 use Rattle.ty_load.specs.Members.{method_sig}
 use Rattle.ty_load.specs.Types.{is_void}
 use Rattle.ty_load.specs.Walks.{base_type, interface_types}
+use Rattle.cli_layout.specs.Extents.{most_bytes}
+use Rattle.cli_layout.specs.Fields.{placed_rows, static_rows}
+use Rattle.cli_layout.specs.Types.{laid_of, statics_of}
+use Rattle.cli_layout.specs.declared.extent.Unlaid.{Unlaid}
+use Rattle.cli_layout.specs.declared.rows.TypeLayout.{TypeLayout}
 use Rattle.il_verify.specs.Inside.{is_inside, method_body}
 use Rattle.il_verify.specs.Kinds.{Content, Number, Object, Compound, Pointing, NoContent, content_of, is_value}
 use Rattle.il_verify.specs.Scope.{Callee, Scope, all_params, callee_of, scope_of, is_constructor, member_of}
 use Rattle.il_verify.specs.Verified.{Typing, verification}
-use Rattle.cil_world.specs.Contents.{box_bytes, class_bytes, classes_of, deepest, field_of, own_fields, size_of}
+use Rattle.cil_world.specs.Contents.{deepest, own_fields, size_of}
 use Rattle.cil_world.specs.State.{CilState, Frame, Holding, Running, Setting, Code, Initializes, Makes, Invokes}
 use Rattle.cil_world.specs.State.{Initializing, Done, initializing}
 use Rattle.cil_world.specs.Values.{Reference, Made as MadeAs}
@@ -66,9 +69,6 @@ with_object ty holds bytes state =
 
 -- ---- types that may be laid out: within the limit, with bases, interfaces and fields that resolve
 
-abbrev pub most_bytes : ℕ
-most_bytes = 65536
-
 abbrev pub is_found : {A : Type 0} → Result A ResolveFault → Bool
 is_found (Ok found) = true
 is_found (Err fault) = false
@@ -76,7 +76,7 @@ is_found (Err fault) = false
 abbrev pub fields_resolve : World → Ty → Bool
 fields_resolve world ty =
     length (own_fields world ty)
-    == option_map_or (λ id. length (instance_fields world id)) (definition_of world ty) 0
+    == option_map_or (λ id. length (placed_rows world id)) (definition_of world ty) 0
 
 abbrev pub class_resolves : World → Ty → Bool
 class_resolves world ty =
@@ -101,12 +101,13 @@ abbrev pub is_known_class : World → Ty → Bool
 is_known_class world ty =
     list_all (λ class. class_resolves world class && fields_are_known world class) (classes_of world ty)
 
-abbrev pub own_bytes : World → Ty → ℕ
-own_bytes world ty = if is_value world ty then box_bytes world ty else class_bytes world ty
+abbrev pub is_laid : Result TypeLayout Unlaid → Bool
+is_laid (Ok layout) = true
+is_laid (Err unlaid) = false
 
 -- a type whose objects may be made, a value type boxed
 abbrev pub may_lay_out : World → Ty → Bool
-may_lay_out world ty = is_known_class world ty && nat_le (own_bytes world ty) most_bytes
+may_lay_out world ty = is_known_class world ty && is_laid (laid_of world ty)
 
 -- a value type wherever it stands; other types aren't laid out there
 abbrev pub may_lay_out_value : World → Ty → Bool
@@ -114,40 +115,23 @@ may_lay_out_value world ty = not (is_value world ty) || may_lay_out world ty
 
 -- ---- statics: those of a type lie as the fields of one object do
 
-abbrev pub filter_rows : (ℕ → Bool) → List ℕ → List ℕ
-filter_rows test [] = []
-filter_rows test (row ∷ rest) = if test row then row ∷ filter_rows test rest else filter_rows test rest
-
-abbrev pub static_names : World → Ty → TypeId → List ℕ
-static_names world ty id =
-    let tables = tables_at world id.module in
-    filter_rows (λ row. is_static_field tables row && not (is_literal tables row)) (fields_of tables id.row)
-
 abbrev pub static_type : World → FieldName → Option Ty
 static_type world name = option_map (λ member. member.ty) (member_of world name)
 
 abbrev pub static_types : World → Ty → List (Option Ty)
 static_types world ty =
     option_map_or (λ id. map (λ row. static_type world (record { owner = ty; row = row }))
-    (static_names world ty id)) (definition_of world ty) []
+    (static_rows world id)) (definition_of world ty) []
 
 abbrev pub is_known_static : World → Option Ty → Bool
 is_known_static world None = false
 is_known_static world (Some ty) = content_resolves (deepest world ty) world (content_of world ty)
 
-abbrev pub known_types : List (Option Ty) → List Ty
-known_types [] = []
-known_types (None ∷ rest) = known_types rest
-known_types (Some ty ∷ rest) = ty ∷ known_types rest
-
-abbrev pub static_bytes : World → Ty → ℕ
-static_bytes world ty = (object (map (field_of world) (known_types (static_types world ty)) ∷ [])).size
-
 -- a type whose statics may be laid out: its bases and interfaces are known, and so are the types of its statics
 abbrev pub may_lay_out_statics : World → Ty → Bool
 may_lay_out_statics world ty =
     list_all (class_resolves world) (classes_of world ty) && list_all (is_known_static world) (static_types world ty)
-    && nat_le (static_bytes world ty) most_bytes
+    && is_laid (statics_of world ty)
 
 -- ---- frames
 

@@ -5,7 +5,6 @@ pub mod Statics
 pub mod Places
 pub mod Arithmetic
 pub mod Comparisons
-pub mod Dispatch
 pub mod Entering
 pub mod Did
 pub mod PlaceSteps

@@ -8,12 +8,13 @@ use Rattle.ty_terms.specs.declared.ty.Ty.{Ty}
 use Rattle.ty_terms.specs.declared.ty.Ty.TheVariants.{Prim, Vector}
 use Rattle.ty_names.specs.Modules.{World}
 use Rattle.ty_load.specs.Primitives.{definition_of}
-use Rattle.ty_load.specs.Cycles.{instance_fields}
+use Rattle.cli_layout.specs.Fields.{placed_rows}
 use Rattle.ty_load.specs.Members.{same_type}
 use Rattle.il_verify.specs.Actions.{Access, FieldAction, ReadField}
 use Rattle.il_verify.specs.Actions.{AddressOfField, WriteField, ReadStatic, AddressOfStatic, WriteStatic, VectorAction}
 use Rattle.il_verify.specs.Actions.{NewVector, Length, ReadElementAs, WriteElementAs, ReadElement, WriteElement}
 use Rattle.il_verify.specs.Actions.{AddressOfElement, CastAction, Box, Unbox, UnboxAny, CastClass, IsInstance}
+use Rattle.ty_load.specs.Classes.{base_if}
 use Rattle.ty_load.specs.Walks.{base_type}
 use Rattle.il_verify.specs.Kinds.{Content, Compound, content_of, fits, is_reference, is_value}
 use Rattle.il_verify.specs.Raises.{NullReference, IndexOutOfRange, ArrayTypeMismatch, InvalidCast, Overflow}
@@ -21,7 +22,7 @@ use Rattle.il_verify.specs.Scope.{Scope, Member, instance_field, static_field, t
 use Rattle.il_verify.specs.VectorRows.{element_of}
 use Rattle.ty_load.specs.Primitives.{core_type, type_of}
 use Rattle.cil_world.specs.Comparisons.{is_null}
-use Rattle.cil_world.specs.Contents.{box_bytes, elements_bytes, joined, own_fields, base_if, classes_of, stored}
+use Rattle.cil_world.specs.Contents.{box_bytes, elements_bytes, object_fields, stored}
 use Rattle.cil_world.specs.Contents.{zero_of}
 use Rattle.cil_world.specs.Did.{Did, Gives, Raises, Triggers, Ends, Cannot, given, given_if, written_if}
 use Rattle.cil_world.specs.Did.{on_none, on_one, on_two, on_three, on_reference, on_some}
@@ -67,9 +68,6 @@ is_exception world state object =
 
 -- ---- fields
 
-abbrev pub base_if_there : World → Ty → Option Ty
-base_if_there world owner = base_if (base_type world owner)
-
 abbrev pub is_compound_content : Content → Bool
 is_compound_content (Compound ty) = true
 is_compound_content _ = false
@@ -81,12 +79,12 @@ is_compound world ty = is_compound_content (content_of world ty)
 -- how many fields the classes above an owner have, and the place of a field among its own
 abbrev pub above : World → Ty → ℕ
 above world owner =
-    option_map_or (λ base. length (joined (map (own_fields world) (classes_of world base))))
-    (base_if_there world owner) 0
+    option_map_or (λ base. length (object_fields world base))
+    (base_if (base_type world owner)) 0
 
 abbrev pub own_number : World → Member → Option ℕ
 own_number world member =
-    option_and_then (λ id. position (λ row. row == member.name.row) (instance_fields world id))
+    option_and_then (λ id. position (λ row. row == member.name.row) (placed_rows world id))
     (definition_of world member.name.owner)
 
 -- the number of a field in an object of its class or of one below

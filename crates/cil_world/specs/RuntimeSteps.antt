@@ -44,7 +44,7 @@ use Rattle.cil_world.specs.Comparisons.{same_method, same_units}
 use Rattle.cil_world.specs.Contents.{deepest, size_of}
 use Rattle.cil_world.specs.Did.{Did, Gives, Raises, RaisesNamed, Ends, Writes, Reads, Cannot, given}
 use Rattle.cil_world.specs.Did.{on_none, on_one, on_two, on_three, on_int32, on_reference, on_some, pushes_frame}
-use Rattle.cil_world.specs.Dispatch.{upward}
+use Rattle.ty_load.specs.Classes.{upward}
 use Rattle.cil_world.specs.Entering.{HeapBound, Unchecked, has_room, next_object, with_object, may_lay_out_value}
 use Rattle.cil_world.specs.ObjectSteps.{count_of, element_type, index_of_number, type_of_object}
 use Rattle.cil_world.specs.Places.{change_object}

@@ -11,14 +11,13 @@ use Rattle.num_core.specs.Integers.{held, wrapped_to_type}
 use Rattle.md_tables.specs.declared.module.Table.{Table}
 use Rattle.ty_terms.specs.declared.names.FieldName.{FieldName}
 use Rattle.ty_terms.specs.declared.ty.Ty.{Ty}
-use Rattle.ty_layout.specs.Fields.{places}
 use Rattle.ty_names.specs.Modules.{World, tables_at, rows, blob_of, index_of}
 use Rattle.ty_load.specs.Primitives.{definition_of}
 use Rattle.ty_load.specs.Members.{same_type}
 use Rattle.il_verify.specs.Actions.{Integer, Sized, Native}
 use Rattle.il_verify.specs.Kinds.{Content, Number, Object, Compound, Pointing, NoContent, content_of}
 use Rattle.il_verify.specs.Scope.{member_of, system}
-use Rattle.cil_world.specs.Contents.{deepest, own_fields, field_of, size_of, zero_of}
+use Rattle.cil_world.specs.Contents.{deepest, own_fields, field_places, size_of, zero_of}
 use Rattle.cil_world.specs.Values.{Value, Null, Nowhere, values, none}
 
 -- ---- bytes of fields: FieldRVA
@@ -59,7 +58,7 @@ value_within left world NoContent bytes = Value.Object Null
 value_within zero world (Compound ty) bytes = Value.Compound none
 value_within (suc left) world (Compound ty) bytes =
     Value.Compound (values (map (λ field. value_within left world (content_of world field.0) (drop field.1 bytes))
-    (zip (own_fields world ty) (places 0 (map (field_of world) (own_fields world ty))))))
+    (zip (own_fields world ty) (field_places world ty))))
 
 -- the handle of a field (II.22.18)
 abbrev pub is_field_handle : World → Ty → Bool

@@ -11,6 +11,7 @@ pub mod Members
 pub mod Refusals
 pub mod Tokens
 pub mod Walks
+pub mod Classes
 pub mod Finding
 pub mod Search
 pub mod Attributes
