@@ -1,7 +1,7 @@
 -- Small programs, and how they end. Types are compared by folds that don't compute here: their equations (`types`) are
 -- put in, and all else computes. What is asked of the world again and again, a method's entry and what its tokens lead
 -- to, is computed once; so is each method's table of stacks, which one round settles.
-use Rattle.std.proofs.Common.{◌≡◌, ◌∙◌, ℕ, zero, suc, true, false, List, [], ◌∷◌, Option, Some, None, Ok, ap}
+use Rattle.std.proofs.Common.{◌≡◌, ◌∙◌, ℕ, zero, suc, true, false, List, [], ◌∷◌, Option, Some, None, Ok, ap, pos}
 use Rattle.std.proofs.Common.{refl}
 use Rattle.std.specs.Int.{int_wrap}
 use Rattle.std.specs.Str.{chars}
@@ -23,6 +23,8 @@ use Rattle.ty_terms.specs.Induction.{out-Prim, out-Named, fold-Prim, fold-Named}
 use Rattle.ty_names.specs.Modules.{World}
 use Rattle.ty_load.specs.declared.item.Item.TheVariants.{OfMethod}
 use Rattle.ty_load.specs.Tokens.{resolution}
+use Rattle.cli_layout.specs.Extents.{extent_of}
+use Rattle.cli_layout.specs.Types.{laid_of}
 use Rattle.il_verify.specs.Actions.{action_of}
 use Rattle.il_verify.specs.Inside.{is_inside}
 use Rattle.il_verify.specs.Rows.{row_of}
@@ -38,9 +40,9 @@ use Rattle.cil_world.specs.Step.{cil_run, cil_start, cil_step}
 
 ruleset types = (size_of, out-Prim, out-Named, fold-Prim, fold-Named, rolls-Prim, rolls-Named)
 
--- what opens it opens the reading of signatures
+-- what opens it opens the reading of signatures, and layouts
 reading : ℕ
-unfolding signature head_behind element_behind primitive_of
+unfolding signature head_behind element_behind primitive_of extent_of laid_of
 reading = 0
 
 -- what opens it opens the steps of a run
