@@ -37,7 +37,8 @@ pub fn later_streams()
 pub fn bounded_runs()
     // by one step, from any state
     ensures grows_by_a_step { (world : World) (setting : Setting) (state state' : CilState)
-        (streams streams' : Streams) → cil_step world setting state streams ≡ Running state' streams' → state.heap ≤ state'.heap }
+        (streams streams' : Streams) → cil_step world setting state streams ≡ Running state' streams' →
+        state.heap ≤ state'.heap }
     // from a moment of a run to a later one
     ensures grows_by_a_run { (world : World) (setting : Setting) (input : List ℕ) (n m : ℕ) (state state' : CilState)
         (streams streams' : Streams) → n ≤ m →
