@@ -155,8 +155,11 @@ next_least =
     next_again refl
 
 next_verified : verification two_calls (method_of 2) next_body
-    ≡ Ok (record { stacks = (0, Slots []) ∷ (1, Slots (Int32 ∷ [])) ∷ (2, Slots (Int32 ∷ Int32 ∷ [])) ∷
-    (3, Slots (Int32 ∷ [])) ∷ []; values = [] })
+    ≡ Ok (record {
+      stacks = (0, Slots []) ∷ (1, Slots (Int32 ∷ [])) ∷ (2, Slots (Int32 ∷ Int32 ∷ [])) ∷
+          (3, Slots (Int32 ∷ [])) ∷ [];
+      values = [];
+    })
 unfolding two_calls reading verification row_of action_of
 next_verified = simp (next_least, types)
 
@@ -204,8 +207,11 @@ twice_least =
     twice_again refl
 
 twice_verified : verification two_calls (method_of 1) twice_body
-    ≡ Ok (record { stacks = (0, Slots []) ∷ (1, Slots (Int32 ∷ [])) ∷ (6, Slots (Int32 ∷ [])) ∷ (11, Slots (Int32 ∷ []))
-    ∷ []; values = [] })
+    ≡ Ok (record {
+      stacks = (0, Slots []) ∷ (1, Slots (Int32 ∷ [])) ∷ (6, Slots (Int32 ∷ [])) ∷ (11, Slots (Int32 ∷ []))
+          ∷ [];
+      values = [];
+    })
 unfolding two_calls reading verification row_of action_of
 twice_verified = simp (twice_least, two_token, types)
 
