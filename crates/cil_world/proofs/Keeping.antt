@@ -148,7 +148,8 @@ module _ (world : World) (setting : Setting) where
 
   pub top_kept : (used : ℕ) (change : Frame → Frame) → KeepsRuns change → (frames : List Frame)
       → Keeps world setting used frames used (top_changed change frames)
-  top_kept used change runs frames = same_bytes used frames (top_changed change frames) (top_bytes world change runs frames)
+  top_kept used change runs frames = same_bytes used frames (top_changed change frames)
+      (top_bytes world change runs frames)
 
   pub pushed_kept : (room : Bool) (frame : Frame) (state : CilState)
       → room ≡ has_stack world setting state.frames (bytes_of_running world frame.runs)
@@ -184,7 +185,8 @@ module _ (world : World) (setting : Setting) where
     none_kept [] did k = k
     none_kept (value ∷ rest) did k = tt
 
-    pub one_kept : (operands : List Value) (next : Value → Did) → ((value : Value) → Kept world setting before (next value))
+    pub one_kept : (operands : List Value) (next : Value → Did) → ((value : Value) → Kept world setting before
+        (next value))
         → Kept world setting before (on_one operands next)
     one_kept [] next k = tt
     one_kept (value ∷ []) next k = k value
@@ -198,7 +200,8 @@ module _ (world : World) (setting : Setting) where
     two_kept (a ∷ (b ∷ (c ∷ rest))) next k = tt
 
     pub three_kept : (operands : List Value) (next : Value → Value → Value → Did)
-        → ((a b c : Value) → Kept world setting before (next a b c)) → Kept world setting before (on_three operands next)
+        → ((a b c : Value) → Kept world setting before (next a b c)) → Kept world setting before
+        (on_three operands next)
     three_kept [] next k = tt
     three_kept (a ∷ []) next k = tt
     three_kept (a ∷ (b ∷ [])) next k = tt

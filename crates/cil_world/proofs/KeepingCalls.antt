@@ -20,8 +20,10 @@ use Rattle.il_verify.specs.Actions.{CallAction, Call, CallVirtual, NewObject, Re
 use Rattle.il_verify.specs.CallRows.{Prefix, Unprefixed, ConstrainedTo, ReadonlyAddress}
 use Rattle.il_verify.specs.Kinds.{is_value}
 use Rattle.il_verify.specs.Scope.{Callee, Scope, callee_of, method_token}
-use Rattle.cil_world.specs.CallSteps.{below_top, boxed_call, boxes_and_calls, boxes_unless, call_step, calls, calls_behind}
-use Rattle.cil_world.specs.CallSteps.{calls_constrained, calls_name, calls_on, calls_on_value, dispatched, enters, enters_entry}
+use Rattle.cil_world.specs.CallSteps.{below_top, boxed_call, boxes_and_calls, boxes_unless, call_step, calls}
+use Rattle.cil_world.specs.CallSteps.{calls_behind}
+use Rattle.cil_world.specs.CallSteps.{calls_constrained, calls_name, calls_on, calls_on_value, dispatched, enters}
+use Rattle.cil_world.specs.CallSteps.{enters_entry}
 use Rattle.cil_world.specs.CallSteps.{enters_or, enters_unless, kept, makes, makes_unless, may_enter, method_frame}
 use Rattle.cil_world.specs.CallSteps.{new_in_heap, new_value, own_or_boxed, own_target, return_below, return_step}
 use Rattle.cil_world.specs.CallSteps.{returns_to, virtual_call}
@@ -34,21 +36,28 @@ use Rattle.cil_world.specs.Entering.{triggers, with_object}
 use Rattle.cil_world.specs.ObjectSteps.{count_of, element_type, index_of_number, read_at, type_of_object}
 use Rattle.cil_world.specs.RuntimeSteps.{fill_with, filled, handle_field, initialize, invokes_of, keeps}
 use Rattle.cil_world.specs.RuntimeSteps.{is_maker_of, may_take, method_behind, method_given, new_string, on_handle}
-use Rattle.cil_world.specs.RuntimeSteps.{nearest_candidates, runtime_call, runtime_step, string_if_room, type_behind, type_given}
-use Rattle.cil_world.specs.RuntimeSteps.{type_named, unit_at, unit_given, unit_set, units_of, unless_null, unless_null_argument}
+use Rattle.cil_world.specs.RuntimeSteps.{nearest_candidates, runtime_call, runtime_step, string_if_room, type_behind}
+use Rattle.cil_world.specs.RuntimeSteps.{type_given}
+use Rattle.cil_world.specs.RuntimeSteps.{type_named, unit_at, unit_given, unit_set, units_of, unless_null}
+use Rattle.cil_world.specs.RuntimeSteps.{unless_null_argument}
 use Rattle.cil_world.specs.RuntimeSteps.{with_units}
 use Rattle.cil_world.specs.Statics.{field_bytes, is_plain}
-use Rattle.cil_world.specs.State.{CilState, Code, Frame, Initializes, Invokes, Makes, Making, NewObject as ForObject, NewValue}
-use Rattle.cil_world.specs.State.{Boxed, Fields, Running, Setting, at_offset, begins_at, calls_at, catches_at, change_top}
-use Rattle.cil_world.specs.State.{counts_at, new_frame, returned_at, tests_at, top_changed, triggers_at, waits_at, waits_for}
-use Rattle.cil_world.specs.StubSteps.{begins_making, boxed_below, calls_method, constructs, counts_arguments, elements_of}
+use Rattle.cil_world.specs.State.{CilState, Code, Frame, Initializes, Invokes, Makes, Making, NewObject as ForObject}
+use Rattle.cil_world.specs.State.{NewValue}
+use Rattle.cil_world.specs.State.{Boxed, Fields, Running, Setting, at_offset, begins_at, calls_at, catches_at}
+use Rattle.cil_world.specs.State.{change_top}
+use Rattle.cil_world.specs.State.{counts_at, new_frame, returned_at, tests_at, top_changed, triggers_at, waits_at}
+use Rattle.cil_world.specs.State.{waits_for}
+use Rattle.cil_world.specs.StubSteps.{begins_making, boxed_below, calls_method, constructs, counts_arguments}
+use Rattle.cil_world.specs.StubSteps.{elements_of}
 use Rattle.cil_world.specs.StubSteps.{ends_making, gives_below, gives_boxed, gives_result, invokes, invoking_sentence}
 use Rattle.cil_world.specs.StubSteps.{invoking_step, is_abstract, is_called_on, makes_class, makes_value, making_step}
 use Rattle.cil_world.specs.StubSteps.{may_pass_all, moves_to, object_of, passed_values, plain_constructor}
 use Rattle.cil_world.specs.StubSteps.{throws_of, vector_of, with_locals}
 use Rattle.cil_world.specs.Values.{At, Lying, Made as MadeAs, Nowhere, Null, Pointer, Reference, Value, Values}
 use Rattle.cil_world.proofs.Keeping.{Kept, KeepsState, Keeps, and_then, charged, did_then, either}
-use Rattle.cil_world.proofs.Keeping.{int32_kept, none_kept, one_kept, popped, pushes_kept, reference_kept, same, same_bytes}
+use Rattle.cil_world.proofs.Keeping.{int32_kept, none_kept, one_kept, popped, pushes_kept, reference_kept, same}
+use Rattle.cil_world.proofs.Keeping.{same_bytes}
 use Rattle.cil_world.proofs.Keeping.{some_kept, three_kept, top_kept, two_kept}
 
 -- what a call returns to runs as before
@@ -150,7 +159,8 @@ module _ (world : World) (setting : Setting) where
       → Kept world setting state (runtime_step setting world state call operands)
   runtime_kept state ObjectGetType operands =
       one_kept world setting state operands _ (λ object. reference_kept world setting state object _ (λ reference.
-      unless_null_kept state reference _ (λ there. some_kept world setting state (type_of_object world state there) _ (λ ty.
+      unless_null_kept state reference _ (λ there. some_kept world setting state (type_of_object world state there) _
+      (λ ty.
       same world setting state))))
   runtime_kept state ObjectGetHashCode operands =
       one_kept world setting state operands _ (λ object. reference_kept world setting state object _ (λ reference.
@@ -165,18 +175,22 @@ module _ (world : World) (setting : Setting) where
       one_kept world setting state operands _ (λ count. int32_kept world setting state count _ (λ n.
       some_kept world setting state (index_of_number n) _ (new_string_kept state)))
   runtime_kept state StringSet operands =
-      three_kept world setting state operands _ (λ string index unit. reference_kept world setting state string _ (λ reference.
+      three_kept world setting state operands _ (λ string index unit. reference_kept world setting state string _
+      (λ reference.
       int32_kept world setting state index _ (λ n. int32_kept world setting state unit _ (λ u.
       some_kept world setting state (index_of_number n) _ (λ k. unit_set_kept state reference k u)))))
   runtime_kept state InitializeArray operands =
-      two_kept world setting state operands _ (λ vector handle. reference_kept world setting state vector _ (λ reference.
+      two_kept world setting state operands _ (λ vector handle. reference_kept world setting state vector _
+      (λ reference.
       handle_kept state handle _ (initialize_kept state reference)))
   runtime_kept state ConsoleWrite operands =
-      one_kept world setting state operands _ (λ byte. int32_kept world setting state byte _ (λ n. same world setting state))
+      one_kept world setting state operands _ (λ byte. int32_kept world setting state byte _
+      (λ n. same world setting state))
   runtime_kept state ConsoleRead operands = none_kept world setting state operands _ (same world setting state)
   runtime_kept state TypeGetType operands =
       one_kept world setting state operands _ (λ name. reference_kept world setting state name _ (λ reference.
-      unless_null_argument_kept state reference _ (λ there. some_kept world setting state (units_of state there) _ (λ units.
+      unless_null_argument_kept state reference _ (λ there. some_kept world setting state (units_of state there) _
+      (λ units.
       type_kept state (type_named setting world units)))))
   runtime_kept state TypeGetFullName operands =
       one_kept world setting state operands _ (λ type. reference_kept world setting state type _ (λ reference.
@@ -228,7 +242,8 @@ module _ (world : World) (setting : Setting) where
   calls_name_kept state again args (Some callee) = calls_kept state again callee args
 
   dispatched_kept : (state : CilState) (again : Bool) (reference : Reference) (args : List Value)
-      (target : Option MethodName) → Kept world setting state (dispatched world setting state again reference args target)
+      (target : Option MethodName) → Kept world setting state
+      (dispatched world setting state again reference args target)
   dispatched_kept state again reference args None = tt
   dispatched_kept state again reference args (Some name) = calls_name_kept state again _ (callee_of world name)
 
@@ -265,7 +280,8 @@ module _ (world : World) (setting : Setting) where
       (boxes_unless_kept (not again && triggers world state callee) state callee ty pointer args)
 
   on_value_kept : (state : CilState) (again : Bool) (ty : Ty) (pointer : Pointer) (args : List Value)
-      (callee : Option Callee) → Kept world setting state (calls_on_value world setting state again ty pointer args callee)
+      (callee : Option Callee) → Kept world setting state
+      (calls_on_value world setting state again ty pointer args callee)
   on_value_kept state again ty pointer args None = tt
   on_value_kept state again ty pointer args (Some callee) = own_kept state again ty pointer args callee
 
@@ -310,7 +326,8 @@ module _ (world : World) (setting : Setting) where
       (class_bytes world callee.name.owner) state)) _
       (and_then world setting
       (charged world setting state.heap (class_bytes world callee.name.owner) state.frames (sym is))
-      (waiting_kept (state.heap + class_bytes world callee.name.owner) (Some (ForObject (next_object state))) state.frames))
+      (waiting_kept (state.heap + class_bytes world callee.name.owner) (Some
+      (ForObject (next_object state))) state.frames))
       (enters_kept (change_top (waits_for (Some (ForObject (next_object state))))
       (with_object callee.name.owner (Fields (map (zero_of world) (object_fields world callee.name.owner)))
       (class_bytes world callee.name.owner) state)) callee.name (Value.Object (next_object state) ∷ args))
@@ -353,7 +370,8 @@ module _ (world : World) (setting : Setting) where
       → state.frames ≡ top ∷ below → Kept world setting state (return_below world state result below)
   return_below_kept state result top [] is = tt
   return_below_kept state result top (frame ∷ below) is =
-      subst (λ frames. Keeps world setting state.heap frames state.heap (returns_to world result frame.runs frame ∷ below))
+      subst (λ frames. Keeps world setting state.heap frames state.heap
+      (returns_to world result frame.runs frame ∷ below))
       (sym is) (below_kept state.heap frame below result top)
 
   return_from : (state : CilState) (result : List Value) (frames : List Frame) → state.frames ≡ frames
@@ -380,7 +398,8 @@ module _ (world : World) (setting : Setting) where
   gives_kept state value top [] is = tt
   gives_kept state value top (frame ∷ below) is =
       subst
-      (λ frames. Keeps world setting state.heap frames state.heap (returns_to world (value ∷ []) frame.runs frame ∷ below))
+      (λ frames. Keeps world setting state.heap frames state.heap (returns_to world (value ∷ []) frame.runs frame
+      ∷ below))
       (sym is) (below_kept state.heap frame below (value ∷ []) top)
 
   boxed_below_kept : (room : Bool) (state : CilState) (ty : Ty) (value : Value) (top : Frame) (below : List Frame)
@@ -431,7 +450,8 @@ module _ (world : World) (setting : Setting) where
     ends_kept ty (Some (ForObject object)) = gives_kept state (Value.Object object) top below is
     ends_kept ty (Some (NewValue value)) = gives_boxed_kept state ty top below value is
 
-    pub making_kept : (ty : Ty) (frame : Frame) → Kept world setting state (making_step world setting state ty frame below)
+    pub making_kept : (ty : Ty) (frame : Frame) → Kept world setting state
+        (making_step world setting state ty frame below)
     making_kept ty frame =
         either world setting state (frame.offset == begins_at) _ _ (begins_kept false ty)
         (either world setting state (frame.offset == triggers_at) _ _ (begins_kept true ty)
@@ -504,6 +524,7 @@ call_step_kept setting scope state again prefix (CallVirtual token) operands =
     (λ callee. virtual_kept scope.world setting state again prefix callee operands)
 call_step_kept setting scope state again prefix (NewObject token) operands =
     some_kept scope.world setting state (method_token scope token) _
-    (λ callee. makes_unless_kept scope.world setting (not again && triggers scope.world state callee) state callee operands)
+    (λ callee. makes_unless_kept scope.world setting (not again && triggers scope.world state callee) state callee
+    operands)
 call_step_kept setting scope state again prefix Return operands =
     return_kept scope.world setting state scope.result operands

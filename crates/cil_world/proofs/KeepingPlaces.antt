@@ -33,9 +33,11 @@ use Rattle.cil_world.specs.PlaceSteps.{branch_step, clear_pointer, compared, cop
 use Rattle.cil_world.specs.PlaceSteps.{goes_to, handle_of, number_step, place_step, pointer_step, read_as, read_object}
 use Rattle.cil_world.specs.PlaceSteps.{read_pointer, root_of, size_if, value_in, write_pointer}
 use Rattle.cil_world.specs.State.{CilState, Frame, Setting}
-use Rattle.cil_world.specs.Values.{ArgumentOf, At, BoxedIn, ElementOf, FieldOf, LocalOf, Lying, Made as MadeAs, NewValueOf}
+use Rattle.cil_world.specs.Values.{ArgumentOf, At, BoxedIn, ElementOf, FieldOf, LocalOf, Lying, Made as MadeAs}
+use Rattle.cil_world.specs.Values.{NewValueOf}
 use Rattle.cil_world.specs.Values.{Nowhere, Null as NullReference_, Pointer, Reference, Root, StaticOf, Value}
-use Rattle.cil_world.proofs.Keeping.{Kept, KeepsIf, KeepsState, charged, either, frame_bytes_kept, given_kept, none_kept}
+use Rattle.cil_world.proofs.Keeping.{Kept, KeepsIf, KeepsState, charged, either, frame_bytes_kept, given_kept}
+use Rattle.cil_world.proofs.Keeping.{none_kept}
 use Rattle.cil_world.proofs.Keeping.{one_kept, pointer_kept, reference_kept, result_kept, same, same_bytes, some_kept}
 use Rattle.cil_world.proofs.Keeping.{three_kept, two_kept, written_kept}
 
@@ -69,7 +71,8 @@ module _ (world : World) (setting : Setting) where
   pub written_place_kept : (root : Root) (path : List ℕ) (ty : Ty) (value : Value) (state : CilState)
       → Kept world setting state (written_if (write_place world root path ty value state))
   written_place_kept root path ty value state =
-      written_kept world setting state (write_place world root path ty value state) (place_kept root path ty value state)
+      written_kept world setting state (write_place world root path ty value state)
+      (place_kept root path ty value state)
 
   pub at_kept : (state : CilState) (pointer : Option Pointer) (value : Value)
       → KeepsIf world setting state (write_at world state pointer value)
@@ -111,7 +114,8 @@ module _ (world : World) (setting : Setting) where
   copy_kept : (state : CilState) (to from : Pointer) → Kept world setting state (copy_pointer world state to from)
   copy_kept state Nowhere from = same world setting state
   copy_kept state (At root path ty) Nowhere = same world setting state
-  copy_kept state (At root path ty) (At root' path' ty') = copied_kept state (At root path ty) (read_place world state root' path')
+  copy_kept state (At root path ty) (At root' path' ty') = copied_kept state (At root path ty)
+      (read_place world state root' path')
 
   clear_kept : (state : CilState) (to : Pointer) → Kept world setting state (clear_pointer world state to)
   clear_kept state Nowhere = same world setting state
@@ -120,13 +124,16 @@ module _ (world : World) (setting : Setting) where
   pub pointer_step_kept : (state : CilState) (action : PointerAction) (operands : List Value)
       → Kept world setting state (pointer_step world state action operands)
   pointer_step_kept state (ReadAs access) operands =
-      one_kept world setting state operands _ (λ from. pointer_kept world setting state from _ (read_pointer_kept state access))
+      one_kept world setting state operands _ (λ from. pointer_kept world setting state from _
+      (read_pointer_kept state access))
   pointer_step_kept state (WriteAs access) operands =
-      two_kept world setting state operands _ (λ to value. pointer_kept world setting state to _ (λ p. write_pointer_kept state p value))
+      two_kept world setting state operands _ (λ to value. pointer_kept world setting state to _
+      (λ p. write_pointer_kept state p value))
   pointer_step_kept state (ReadObject token) operands =
       one_kept world setting state operands _ (λ from. pointer_kept world setting state from _ (read_object_kept state))
   pointer_step_kept state (WriteObject token) operands =
-      two_kept world setting state operands _ (λ to value. pointer_kept world setting state to _ (λ p. write_pointer_kept state p value))
+      two_kept world setting state operands _ (λ to value. pointer_kept world setting state to _
+      (λ p. write_pointer_kept state p value))
   pointer_step_kept state (CopyObject token) operands =
       two_kept world setting state operands _ (λ to from. pointer_kept world setting state to _ (λ p.
       pointer_kept world setting state from _ (copy_kept state p)))
@@ -209,7 +216,8 @@ module _ (world : World) (setting : Setting) where
   pub at_static_kept : (state : CilState) (again : Bool) (owner : Ty) (done : Did) → Kept world setting state done
       → Kept world setting state (at_static world state again owner done)
   at_static_kept state again owner done k =
-      static_if_kept state (not again && is_to_initialize world state owner) (may_lay_out_statics world owner) owner done k
+      static_if_kept state (not again && is_to_initialize world state owner)
+      (may_lay_out_statics world owner) owner done k
 
   -- ---- vectors
 
@@ -229,7 +237,8 @@ module _ (world : World) (setting : Setting) where
   pub vector_of_kept : (state : CilState) (count : Value) (element : Ty)
       → Kept world setting state (vector_of setting world state count element)
   vector_of_kept state count element =
-      either world setting state (may_lay_out_value world element) _ _ (new_vector_kept state element (index_of count)) tt
+      either world setting state (may_lay_out_value world element) _ _ (new_vector_kept state element
+      (index_of count)) tt
 
   length_kept : (state : CilState) (count : Option ℕ) → Kept world setting state (length_given state count)
   length_kept state None = tt
@@ -281,7 +290,8 @@ module _ (world : World) (setting : Setting) where
   -- ---- boxes and casts
 
   boxed_kept : (room : Bool) (state : CilState) (ty : Ty) (value : Value)
-      → room ≡ has_room setting state (box_bytes world ty) → Kept world setting state (boxed_if room world state ty value)
+      → room ≡ has_room setting state (box_bytes world ty) → Kept world setting state
+      (boxed_if room world state ty value)
   boxed_kept false state ty value is = tt
   boxed_kept true state ty value is = charged world setting state.heap (box_bytes world ty) state.frames (sym is)
 
@@ -332,7 +342,8 @@ module _ (setting : Setting) (scope : Scope) (state : CilState) where
 
   pub place_step_kept : (number : ℕ) (frame : Frame) (action : PlaceAction) (operands : List Value)
       → Kept scope.world setting state (place_step scope state number frame action operands)
-  place_step_kept number frame Quiet operands = none_kept scope.world setting state operands _ (same scope.world setting state)
+  place_step_kept number frame Quiet operands = none_kept scope.world setting state operands _
+      (same scope.world setting state)
   place_step_kept number frame Twice operands =
       one_kept scope.world setting state operands _ (λ value. same scope.world setting state)
   place_step_kept number frame Drop operands =
@@ -340,7 +351,8 @@ module _ (setting : Setting) (scope : Scope) (state : CilState) where
   place_step_kept number frame (Read place) operands =
       none_kept scope.world setting state operands _ (given_kept scope.world setting state (value_in frame place))
   place_step_kept number frame (Write place) operands =
-      one_kept scope.world setting state operands _ (λ value. some_kept scope.world setting state (type_of_place scope place) _
+      one_kept scope.world setting state operands _ (λ value. some_kept scope.world setting state
+      (type_of_place scope place) _
       (λ ty. written_place_kept scope.world setting (root_of number place) [] ty value state))
   place_step_kept number frame (AddressOf place) operands =
       none_kept scope.world setting state operands _ (some_kept scope.world setting state (type_of_place scope place) _
@@ -357,7 +369,8 @@ module _ (setting : Setting) (scope : Scope) (state : CilState) where
   place_step_kept number frame (Handle token) operands =
       none_kept scope.world setting state operands _ (handle_kept (item scope token))
   place_step_kept number frame (SizeOf token) operands =
-      none_kept scope.world setting state operands _ (some_kept scope.world setting state (type_token scope token) _ (λ ty.
+      none_kept scope.world setting state operands _ (some_kept scope.world setting state (type_token scope token) _
+      (λ ty.
       either scope.world setting state (is_value scope.world ty) _ _ (size_kept (may_lay_out scope.world ty) ty)
       (same scope.world setting state)))
   place_step_kept number frame (Constrained token) operands =
@@ -368,30 +381,37 @@ module _ (setting : Setting) (scope : Scope) (state : CilState) where
   pub field_step_kept : (again : Bool) (action : FieldAction) (operands : List Value)
       → Kept scope.world setting state (field_step scope state again action operands)
   field_step_kept again (ReadField token) operands =
-      one_kept scope.world setting state operands _ (λ object. some_kept scope.world setting state (instance_field scope token) _
+      one_kept scope.world setting state operands _ (λ object. some_kept scope.world setting state
+      (instance_field scope token) _
       (λ member. read_field_kept scope.world setting state member object))
   field_step_kept again (AddressOfField token) operands =
-      one_kept scope.world setting state operands _ (λ object. some_kept scope.world setting state (instance_field scope token) _
+      one_kept scope.world setting state operands _ (λ object. some_kept scope.world setting state
+      (instance_field scope token) _
       (λ member. address_of_field_kept scope.world setting state member object))
   field_step_kept again (WriteField token) operands =
-      two_kept scope.world setting state operands _ (λ object value. some_kept scope.world setting state (instance_field scope token) _
+      two_kept scope.world setting state operands _ (λ object value. some_kept scope.world setting state
+      (instance_field scope token) _
       (λ member. write_field_kept scope.world setting state member object value))
   field_step_kept again (ReadStatic token) operands =
-      none_kept scope.world setting state operands _ (some_kept scope.world setting state (static_field scope token) _ (λ member.
+      none_kept scope.world setting state operands _ (some_kept scope.world setting state (static_field scope token) _
+      (λ member.
       at_static_kept scope.world setting state again member.name.owner _
       (given_kept scope.world setting state (read_at scope.world state (Some (static_place member))))))
   field_step_kept again (AddressOfStatic token) operands =
-      none_kept scope.world setting state operands _ (some_kept scope.world setting state (static_field scope token) _ (λ member.
+      none_kept scope.world setting state operands _ (some_kept scope.world setting state (static_field scope token) _
+      (λ member.
       at_static_kept scope.world setting state again member.name.owner _ (same scope.world setting state)))
   field_step_kept again (WriteStatic token) operands =
-      one_kept scope.world setting state operands _ (λ value. some_kept scope.world setting state (static_field scope token) _
+      one_kept scope.world setting state operands _ (λ value. some_kept scope.world setting state
+      (static_field scope token) _
       (λ member. at_static_kept scope.world setting state again member.name.owner _
       (written_at_kept scope.world setting state (Some (static_place member)) value)))
 
   pub vector_step_kept : (readonly : Bool) (action : VectorAction) (operands : List Value)
       → Kept scope.world setting state (vector_step setting scope state readonly action operands)
   vector_step_kept readonly (NewVector token) operands =
-      one_kept scope.world setting state operands _ (λ count. some_kept scope.world setting state (type_token scope token) _
+      one_kept scope.world setting state operands _ (λ count. some_kept scope.world setting state
+      (type_token scope token) _
       (vector_of_kept scope.world setting state count))
   vector_step_kept readonly Length operands =
       one_kept scope.world setting state operands _ (λ vector. reference_kept scope.world setting state vector _
@@ -401,7 +421,8 @@ module _ (setting : Setting) (scope : Scope) (state : CilState) where
       (λ reference. at_element_kept scope.world setting state reference index _
       (element_read_kept scope.world setting state reference access)))
   vector_step_kept readonly (WriteElementAs access) operands =
-      three_kept scope.world setting state operands _ (λ vector index value. reference_kept scope.world setting state vector _
+      three_kept scope.world setting state operands _
+      (λ vector index value. reference_kept scope.world setting state vector _
       (λ reference. at_element_kept scope.world setting state reference index _
       (element_written_kept scope.world setting state reference value)))
   vector_step_kept readonly (ReadElement token) operands =
@@ -409,7 +430,8 @@ module _ (setting : Setting) (scope : Scope) (state : CilState) where
       (λ reference. at_element_kept scope.world setting state reference index _
       (element_loaded_kept scope.world setting state reference)))
   vector_step_kept readonly (WriteElement token) operands =
-      three_kept scope.world setting state operands _ (λ vector index value. reference_kept scope.world setting state vector _
+      three_kept scope.world setting state operands _
+      (λ vector index value. reference_kept scope.world setting state vector _
       (λ reference. at_element_kept scope.world setting state reference index _
       (element_written_kept scope.world setting state reference value)))
   vector_step_kept readonly (AddressOfElement token) operands =
@@ -421,17 +443,25 @@ module _ (setting : Setting) (scope : Scope) (state : CilState) where
   pub cast_step_kept : (action : CastAction) (operands : List Value)
       → Kept scope.world setting state (cast_step setting scope state action operands)
   cast_step_kept (Box token) operands =
-      one_kept scope.world setting state operands _ (λ value. some_kept scope.world setting state (type_token scope token) _
+      one_kept scope.world setting state operands _ (λ value. some_kept scope.world setting state
+      (type_token scope token) _
       (box_value_kept scope.world setting state value))
   cast_step_kept (Unbox token) operands =
-      one_kept scope.world setting state operands _ (λ object. reference_kept scope.world setting state object _ (λ reference.
-      some_kept scope.world setting state (type_token scope token) _ (λ ty. unbox_kept scope.world setting state ty reference)))
+      one_kept scope.world setting state operands _ (λ object. reference_kept scope.world setting state object _
+      (λ reference.
+      some_kept scope.world setting state (type_token scope token) _
+      (λ ty. unbox_kept scope.world setting state ty reference)))
   cast_step_kept (UnboxAny token) operands =
-      one_kept scope.world setting state operands _ (λ object. reference_kept scope.world setting state object _ (λ reference.
-      some_kept scope.world setting state (type_token scope token) _ (unbox_any_kept scope.world setting state reference)))
+      one_kept scope.world setting state operands _ (λ object. reference_kept scope.world setting state object _
+      (λ reference.
+      some_kept scope.world setting state (type_token scope token) _
+      (unbox_any_kept scope.world setting state reference)))
   cast_step_kept (CastClass token) operands =
-      one_kept scope.world setting state operands _ (λ object. reference_kept scope.world setting state object _ (λ reference.
-      some_kept scope.world setting state (type_token scope token) _ (cast_class_kept scope.world setting state reference)))
+      one_kept scope.world setting state operands _ (λ object. reference_kept scope.world setting state object _
+      (λ reference.
+      some_kept scope.world setting state (type_token scope token) _
+      (cast_class_kept scope.world setting state reference)))
   cast_step_kept (IsInstance token) operands =
-      one_kept scope.world setting state operands _ (λ object. reference_kept scope.world setting state object _ (λ reference.
+      one_kept scope.world setting state operands _ (λ object. reference_kept scope.world setting state object _
+      (λ reference.
       some_kept scope.world setting state (type_token scope token) _ (λ ty. same scope.world setting state)))

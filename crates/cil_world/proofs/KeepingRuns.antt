@@ -1,5 +1,6 @@
 -- Runs use no less of the heap than before, and pass neither bound.
-use Rattle.std.proofs.Common.{◌≡◌, ◌∙◌, ℕ, zero, suc, ◌+◌, ◌-◌, ◌≤◌, ◌==◌, ◌&&◌, Bool, true, false, nat_le, if◌then◌else◌}
+use Rattle.std.proofs.Common.{◌≡◌, ◌∙◌, ℕ, zero, suc, ◌+◌, ◌-◌, ◌≤◌, ◌==◌, ◌&&◌, Bool, true, false, nat_le}
+use Rattle.std.proofs.Common.{if◌then◌else◌}
 use Rattle.std.proofs.Common.{List, [], ◌∷◌, find, Option, Some, None, Result, Ok, Err, option_map, refl, sym, ap}
 use Rattle.std.proofs.Common.{subst, arith, le_refl, leb-true}
 use Rattle.std.specs.Option.{option_and_then, option_map_or}
@@ -18,8 +19,9 @@ use Rattle.cil_world.specs.Did.{pushed}
 use Rattle.cil_world.specs.Entering.{Entry, bytes_of_frames, bytes_of_running, entry, entry_bytes, entry_in, entry_with}
 use Rattle.cli_layout.specs.Extents.{most_bytes}
 use Rattle.cil_world.specs.Entering.{has_stack, initializer_of, lays_out_frame, next_object, stub_bytes, triggers}
-use Rattle.cil_world.specs.State.{Begun, CilState, Code, Done, Failed, Frame, Going, Initializes, Initializing, Invokes, Makes}
-use Rattle.cil_world.specs.State.{Phase, Running, Searching, Setting, Unwinding, at_offset, begins_at, calls_at, catches_at}
+use Rattle.cil_world.specs.State.{Begun, CilState, Code, Done, Failed, Frame, Going, Initializes, Initializing}
+use Rattle.cil_world.specs.State.{Invokes, Makes, Phase, Running, Searching, Setting, Unwinding, at_offset, begins_at}
+use Rattle.cil_world.specs.State.{calls_at, catches_at}
 use Rattle.cil_world.specs.State.{change_top, initializing, returned_at, waits_at, with_frames, with_initializing}
 use Rattle.cil_world.specs.Step.{CilRun, at_instruction, begins_callee, begins_entry, begins_in, begins_name}
 use Rattle.cil_world.specs.Step.{calls_initializer, cil_start, cil_step, entry_args}
@@ -30,7 +32,8 @@ use Rattle.cil_world.specs.Unwinding.{search_step, unwind_step}
 use Rattle.cil_world.specs.Values.{Value}
 use Rattle.cil_world.proofs.Keeping.{Keeps, KeepsState, Kept, and_then, did_then, popped, same, top_kept}
 use Rattle.cil_world.proofs.KeepingCalls.{enters_entry_kept, invoking_kept, making_kept}
-use Rattle.cil_world.proofs.KeepingSteps.{KeptRun, found_kept, instruction_kept, raises_kept, searched_kept, settles_kept}
+use Rattle.cil_world.proofs.KeepingSteps.{KeptRun, found_kept, instruction_kept, raises_kept, searched_kept}
+use Rattle.cil_world.proofs.KeepingSteps.{settles_kept}
 use Rattle.cil_world.proofs.KeepingSteps.{settles_stub_kept, stub_kept, throws_kept, unwound_kept, unwound_or_kept}
 use Rattle.cil_world.proofs.Runs.{split}
 
@@ -129,7 +132,8 @@ module _ (world : World) (setting : Setting) where
   below_kept : (state : CilState) (top : Frame) (below : List Frame) → state.frames ≡ top ∷ below
       → KeepsState world setting state (with_frames below state)
   below_kept state top below is =
-      subst (λ from. Keeps world setting state.heap from state.heap below) (sym is) (popped world setting state.heap top below)
+      subst (λ from. Keeps world setting state.heap from state.heap below) (sym is)
+      (popped world setting state.heap top below)
 
   returns_kept : (resumes : Bool) (state : CilState) (streams : Streams) (top : Frame) (below : List Frame)
       → state.frames ≡ top ∷ below
@@ -252,7 +256,8 @@ module _ (world : World) (setting : Setting) where
       → InBounds (if test then pushes_stub (has_stack world setting state.frames stub_bytes) ty false state streams
       else Goes state streams)
   stub_if true ty state streams is =
-      kept_in_bounds state (pushes_stub (has_stack world setting state.frames stub_bytes) ty false state streams) is.0 is.1
+      kept_in_bounds state (pushes_stub (has_stack world setting state.frames stub_bytes) ty false state streams) is.0
+      is.1
       (stub_kept world setting _ state ty false state streams refl (same world setting state))
   stub_if false ty state streams is = is
 

@@ -33,7 +33,8 @@ use Rattle.cil_world.specs.Unwinding.{end_step, ended_goal, entered, found_or_ne
 use Rattle.cil_world.specs.Unwinding.{leave_step, rethrown, search_begun, searches_at, unwind_frames}
 use Rattle.cil_world.specs.Unwinding.{first_test, unwinds, with_pending}
 use Rattle.cil_world.specs.Values.{Null, Reference, Value, Made as MadeAs, Lying}
-use Rattle.cil_world.proofs.Keeping.{Keeps, KeepsIf, KeepsState, Kept, above, and_then, charged, did_then, none_kept, one_kept}
+use Rattle.cil_world.proofs.Keeping.{Keeps, KeepsIf, KeepsState, Kept, above, and_then, charged, did_then, none_kept}
+use Rattle.cil_world.proofs.Keeping.{one_kept}
 use Rattle.cil_world.proofs.Keeping.{popped, reference_kept, same, same_bytes, some_kept, top_kept}
 use Rattle.cil_world.proofs.KeepingPlaces.{branch_step_kept, cast_step_kept, field_step_kept, number_step_kept}
 use Rattle.cil_world.proofs.KeepingPlaces.{place_step_kept, pointer_step_kept, vector_step_kept}
@@ -53,7 +54,8 @@ module _ (world : World) (setting : Setting) where
   searches_kept before state object None k = tt
   searches_kept before state object (Some test) k = k
 
-  pub searched_kept : (before : CilState) (streams : Streams) (found : Option CilState) → KeepsIf world setting before found
+  pub searched_kept : (before : CilState) (streams : Streams) (found : Option CilState)
+      → KeepsIf world setting before found
       → KeptRun world setting before (searched_or streams found)
   searched_kept before streams None k = tt
   searched_kept before streams (Some state) k = k
@@ -98,17 +100,20 @@ module _ (world : World) (setting : Setting) where
       in_place_of state.heap (entered world clause object top.runs) top below state.frames
       (entered_runs clause object top.runs top) is
   enters_or_pops false state object frame clause top below is =
-      subst (λ from. Keeps world setting state.heap from state.heap below) (sym is) (popped world setting state.heap top below)
+      subst (λ from. Keeps world setting state.heap from state.heap below) (sym is)
+      (popped world setting state.heap top below)
 
   pub unwound_kept : (state : CilState) (object : Reference) (frame clause : ℕ) (left : List ℕ) (frames : List Frame)
       → state.frames ≡ frames → KeepsIf world setting state (unwind_frames world state object frame clause left frames)
   unwound_kept state object frame clause left [] is = tt
   unwound_kept state object frame clause (handler ∷ left) (top ∷ below) is =
-      in_place_of state.heap (into_handler world handler left (CatchIn object frame clause)) top below state.frames refl is
+      in_place_of state.heap (into_handler world handler left (CatchIn object frame clause)) top below state.frames refl
+      is
   unwound_kept state object frame clause [] (top ∷ below) is =
       enters_or_pops (length below == frame) state object frame clause top below is
 
-  pub unwound_or_kept : (before : CilState) (streams : Streams) (found : Option CilState) → KeepsIf world setting before found
+  pub unwound_or_kept : (before : CilState) (streams : Streams) (found : Option CilState)
+      → KeepsIf world setting before found
       → KeptRun world setting before (unwound_or streams found)
   unwound_or_kept before streams None k = tt
   unwound_or_kept before streams (Some state) k = k
@@ -235,7 +240,8 @@ row_kept setting found state frame again prefix i (Some row) =
     (does setting found.scope (change_top (with_stack (drop row.takes frame.stack)) state) (length state.frames - 1)
     frame again prefix i.next (action_at i) (taken row.takes frame.stack))
     (top_kept found.scope.world setting state.heap (with_stack (drop row.takes frame.stack)) (λ f. refl) state.frames)
-    (does_kept setting found.scope (change_top (with_stack (drop row.takes frame.stack)) state) (length state.frames - 1)
+    (does_kept setting found.scope (change_top (with_stack (drop row.takes frame.stack)) state)
+    (length state.frames - 1)
     frame again prefix i.next (action_at i) (taken row.takes frame.stack))
 
 pub instruction_kept : (setting : Setting) (found : Entry) (state : CilState) (frame : Frame) (again : Bool) (i : Instr)

@@ -130,7 +130,8 @@ by_did world setting before next streams (Writes state byte) = by_output byte st
 by_did world setting before next streams (Reads state) = by_input streams.input streams.output streams.error
 by_did world setting before next streams Cannot = no_later streams
 
-by_performing : (world : World) (setting : Setting) (state : CilState) (frame : Frame) (again : Bool) (streams : Streams)
+by_performing : (world : World) (setting : Setting) (state : CilState) (frame : Frame) (again : Bool)
+    (streams : Streams)
     (found : Entry) (i : Option Instr) → Later streams (performs world setting state frame again streams found i)
 by_performing world setting state frame again streams found None = no_later streams
 by_performing world setting state frame again streams found (Some i) =

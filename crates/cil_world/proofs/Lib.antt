@@ -5,4 +5,5 @@ pub mod KeepingPlaces
 pub mod KeepingCalls
 pub mod KeepingSteps
 pub mod KeepingRuns
+pub mod Programs
 mod Worked

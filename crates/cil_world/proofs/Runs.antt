@@ -19,7 +19,8 @@ ended_stays world setting input n m status streams h ended =
     split world setting input n m h ∙ ap (after (cil_step world setting) (m - n)) ended
     ∙ after-ended (cil_step world setting) (m - n) status streams
 
-pub stopped_stays : (world : World) (setting : Setting) (input : List ℕ) (n m : ℕ) (cause : CilCause) (streams : Streams)
+pub stopped_stays : (world : World) (setting : Setting) (input : List ℕ) (n m : ℕ) (cause : CilCause)
+    (streams : Streams)
     → n ≤ m → run_under world setting input n ≡ Stopped cause streams
     → run_under world setting input m ≡ Stopped cause streams
 stopped_stays world setting input n m cause streams h stopped =

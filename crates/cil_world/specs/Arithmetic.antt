@@ -160,11 +160,21 @@ on_number result None = None
 abbrev pub in_kind : Held → ℤ → Result Value Raised
 in_kind from n = Ok (value_of from.kind from.native (held from.kind n))
 
+abbrev pub of_one : List Value → (Value → Option (Result Value Raised)) → Option (Result Value Raised)
+of_one (a ∷ []) result = result a
+of_one _ result = None
+
+abbrev pub of_two : List Value → (Value → Value → Option (Result Value Raised)) → Option (Result Value Raised)
+of_two (a ∷ (b ∷ [])) result = result a b
+of_two _ result = None
+
 abbrev pub number_result : NumberAction → List Value → Option (Result Value Raised)
-number_result (Combine operation) (a ∷ (b ∷ [])) = paired operation (pair_of a b)
-number_result (Shift op) (a ∷ (amount ∷ [])) = shifted_by op (held_by a) (held_by amount)
-number_result Negate (a ∷ []) = on_number (λ from. in_kind from (pos 0 -ℤ from.value)) (held_by a)
-number_result Complement (a ∷ []) = on_number (λ from. in_kind from (negsuc 0 -ℤ from.value)) (held_by a)
-number_result (Convert to) (a ∷ []) = on_number (λ from. Ok (conversion to from)) (held_by a)
-number_result (ConvertChecked sign to) (a ∷ []) = on_number (checked_conversion sign to) (held_by a)
-number_result _ _ = None
+number_result (Combine operation) operands = of_two operands (λ a b. paired operation (pair_of a b))
+number_result (Shift op) operands = of_two operands (λ a amount. shifted_by op (held_by a) (held_by amount))
+number_result Negate operands =
+    of_one operands (λ a. on_number (λ from. in_kind from (pos 0 -ℤ from.value)) (held_by a))
+number_result Complement operands =
+    of_one operands (λ a. on_number (λ from. in_kind from (negsuc 0 -ℤ from.value)) (held_by a))
+number_result (Convert to) operands = of_one operands (λ a. on_number (λ from. Ok (conversion to from)) (held_by a))
+number_result (ConvertChecked sign to) operands =
+    of_one operands (λ a. on_number (checked_conversion sign to) (held_by a))

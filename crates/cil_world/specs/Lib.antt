@@ -15,3 +15,4 @@ pub mod CallSteps
 pub mod StubSteps
 pub mod Step
 pub mod Later
+pub mod Programs

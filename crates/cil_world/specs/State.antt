@@ -64,8 +64,8 @@ pub record Caught : Type 0 where
   pub object : Reference
 
 -- A call that isn't over: its arguments and locals, its evaluation stack, the top first, and the offset of its next
--- instruction, or of the call for which it waits; of a stub its next sentence, by a number. What a frame waits for, what
--- its catch handlers have caught, and what is pending in it, the innermost first.
+-- instruction, or of the call for which it waits; of a stub its next sentence, by a number. What a frame waits for,
+-- what its catch handlers have caught, and what is pending in it, the innermost first.
 pub record Frame : Type 0 where
   pub runs : Running
   pub args : List Value

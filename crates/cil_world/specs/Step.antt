@@ -196,7 +196,8 @@ taken count stack = reverse (take count stack)
 abbrev pub with_row : Setting → Entry → CilState → Frame → Bool → Prefix → Instr → Option Row → Did
 with_row setting found state frame again prefix i None = Cannot
 with_row setting found state frame again prefix i (Some row) =
-    does setting found.scope (change_top (with_stack (drop row.takes frame.stack)) state) (length state.frames - 1) frame
+    does setting found.scope (change_top (with_stack (drop row.takes frame.stack)) state)
+    (length state.frames - 1) frame
     again prefix i.next (action_at i) (taken row.takes frame.stack)
 
 abbrev pub with_prefix : Setting → Entry → CilState → Frame → Bool → Instr → Prefix → Did

@@ -1,5 +1,5 @@
--- The stubs that make an object for a Type and call a method for a MethodInfo, a sentence a step. What is called, and an
--- initializer that the call triggers, runs above the stub; what that throws the stub catches, and raises a
+-- The stubs that make an object for a Type and call a method for a MethodInfo, a sentence a step. What is called, and
+-- an initializer that the call triggers, runs above the stub; what that throws the stub catches, and raises a
 -- TargetInvocationException of it.
 use Rattle.std.specs.Prelude.{ℕ, ◌==◌, ◌&&◌, Bool, true, false, not, if◌then◌else◌, List, [], ◌∷◌, codes, find, length}
 use Rattle.std.specs.Prelude.{zip, Option, Some, None}
@@ -91,7 +91,8 @@ missing_method state = RaisesNamed state (codes "System") (codes "MissingMethodE
 -- the constructor runs above the stub, its initializer first unless that has just run
 abbrev pub constructs : World → Setting → CilState → Bool → Callee → Did
 constructs world setting state again callee =
-    makes_unless (not again && triggers world state callee) world setting (change_top (at_offset waits_at) state) callee []
+    makes_unless (not again && triggers world state callee) world setting
+    (change_top (at_offset waits_at) state) callee []
 
 -- a class that isn't abstract with a public constructor that takes nothing
 abbrev pub makes_class : World → Setting → CilState → Bool → Bool → Option Callee → Did

@@ -49,8 +49,8 @@ clauses_of world frame = option_map_or (clauses_with frame.offset) (entry_of_run
 abbrev pub all_clauses : World → Frame → List Clause
 all_clauses world frame = option_map_or (λ found. found.body.clauses) (entry_of_running world frame.runs) []
 
--- A stub has a catch of its own: that for an initializer while it waits for it, and the others also while an initializer
--- runs that their call triggers. What a stub raises itself it doesn't catch.
+-- A stub has a catch of its own: that for an initializer while it waits for it, and the others also while an
+-- initializer runs that their call triggers. What a stub raises itself it doesn't catch.
 abbrev pub is_calling : ℕ → Bool
 is_calling offset = offset == waits_at || offset == triggers_at
 
