@@ -1,5 +1,5 @@
 -- From an offset of whose stack less is known no more is passed on.
-use Rattle.std.proofs.Common.{◌≡◌, refl, sym, ap, subst, ◌∙◌, ℕ, zero, suc, ◌<◌, Bool, true, List, [], ◌∷◌, ◌++◌, inl}
+use Rattle.std.proofs.Common.{◌≡◌, ap, subst, ℕ, zero, suc, ◌<◌, Bool, true, List, [], ◌∷◌, ◌++◌, inl}
 use Rattle.std.proofs.Common.{inr}
 use Rattle.std.proofs.Common.{length, map, filter, slice_index_or, Contains, arith}
 use Rattle.std.proofs.lemmas.List.Elements.{Contains-append_cases, Contains-append_left, Contains-append_right}

@@ -68,10 +68,13 @@ fn stacks_in(
     for step in steps {
         if let Some(stack) = known(table, step.at) {
             let stack = stack.copy(alloc)?;
-            add(&mut stacks, OffsetStack {
-                offset: step.at,
-                stack,
-            })?;
+            add(
+                &mut stacks,
+                OffsetStack {
+                    offset: step.at,
+                    stack,
+                },
+            )?;
         }
     }
     Ok(stacks)

@@ -1,5 +1,5 @@
 -- The offsets that rounds find are those that control comes to.
-use Rattle.std.proofs.Common.{◌≡◌, ◌⊎◌, inl, inr, refl, sym, ap, subst, ◌∙◌, ℕ, zero, suc, ◌<◌, Bool, true, false}
+use Rattle.std.proofs.Common.{◌≡◌, inl, inr, refl, sym, ap, subst, ◌∙◌, ℕ, zero, suc, ◌<◌, Bool, true, false}
 use Rattle.std.proofs.Common.{List, []}
 use Rattle.std.proofs.Common.{◌∷◌, ◌++◌, length, map, filter, Contains, slice_index_or, Option, Some, None, arith, cond}
 use Rattle.std.specs.List.{list_all, flat_map}
@@ -14,7 +14,7 @@ use Rattle.il_code.specs.declared.body.Instr.{Instr}
 use Rattle.il_code.specs.Listing.{targets_in}
 use Rattle.il_code.specs.Reach.{AreReached, Leads, end_of, handlers_of, leads_of, next_of, tries}
 use Rattle.il_code.proofs.Coming.{reached_by}
-use Rattle.least_flow.specs.Solution.{row, AllBelow, IsLeast, IsRowBelow, IsSolution, Tells}
+use Rattle.least_flow.specs.Solution.{row, IsRowBelow, IsSolution}
 use Rattle.ty_terms.specs.declared.ty.Ty.{Ty}
 use Rattle.il_stacks.specs.declared.effect.Effect.TheVariants.{Unknown}
 use Rattle.il_stacks.specs.declared.effect.Handler.{Handler}

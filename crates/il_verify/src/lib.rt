@@ -1,6 +1,6 @@
-//! The verifier (ECMA-335 III.1.8): in definitions under `specs/` what each operation takes from the stack, gives and can
-//! raise, what is known of the stack at each offset, and what fails, with laws that show that these mean what they should;
-//! in code how control may go between the ranges of clauses.
+//! The verifier (ECMA-335 III.1.8): in definitions under `specs/` what each operation takes from the stack, gives and
+//! can raise, and what fails, with laws that show that these mean what they should; in code how control may go between
+//! the ranges of clauses, and the steps and handlers by which stacks flow.
 #![tactic(auto)]
 
 pub mod laws;

@@ -64,7 +64,11 @@ impl Range {
     fn or_smaller(self, other: Range) -> Range
         ensures { result ≡ smaller self other }
     {
-        if other.size() < self.size() { other } else { self }
+        if other.size() < self.size() {
+            other
+        } else {
+            self
+        }
     }
 
     /// Whether it is what a clause guards.

@@ -5,4 +5,5 @@ use Rattle.il_stacks.proofs.typing.values_in.Given as goal
 
 abbrev pub invariant-loop-entry : goal.invariant-loop-entry
 invariant-loop-entry l =
-    values_in l.stacks ≡ fold added l.values (flat_map (λ entry. values_of_stack entry.stack) (drop l.entry-index l.stacks))
+    values_in l.stacks
+    ≡ fold added l.values (flat_map (λ entry. values_of_stack entry.stack) (drop l.entry-index l.stacks))
