@@ -4,6 +4,7 @@ use Rattle.std.specs.Prelude.{length, find, ◌++◌, Option}
 use Rattle.std.specs.List.{list_any, list_all}
 use Rattle.std.specs.Option.{option_map_or}
 use Rattle.il_code.specs.declared.body.Body.{Body}
+use Rattle.il_code.specs.declared.body.Clause.{Clause}
 use Rattle.il_code.specs.declared.body.Instr.{Instr}
 use Rattle.il_code.specs.Listing.{targets_in}
 use Rattle.il_code.specs.Reach.{next_of}
@@ -111,6 +112,34 @@ prefixes_well body i =
 abbrev pub ways_of : Instr → List ℕ
 ways_of i = next_of i ++ targets_in i.operand
 
+-- ---- rules on the ranges of clauses
+
+-- control goes on by the ways of ranges, or by `leave`
+abbrev pub goes_its_ways : List Clause → Instr → Bool
+goes_its_ways clauses i = is_leave (action_at i) || list_all (may_go clauses i.at) (ways_of i)
+
+abbrev pub begins_outside : List Clause → Instr → Bool
+begins_outside clauses i = not (i.at == 0) || not (is_in_handler clauses 0)
+
+abbrev pub leaves_its_ranges : List Clause → Instr → Bool
+leaves_its_ranges clauses i =
+    not (is_leave (action_at i)) || list_all (may_leave clauses i.at) (targets_in i.operand)
+
+abbrev pub ends_its_handler : List Clause → Instr → Bool
+ends_its_handler clauses i = not (is_end (action_at i)) || ends_finally clauses i.at
+
+abbrev pub rethrows_in_catch : List Clause → Instr → Bool
+rethrows_in_catch clauses i = not (is_rethrow (action_at i)) || is_in_catch clauses i.at
+
+abbrev pub returns_outside : List Clause → Instr → Bool
+returns_outside clauses i = not (is_return (action_at i)) || not (is_in_range clauses i.at)
+
+-- all of these
+abbrev pub keeps_to_ranges : List Clause → Instr → Bool
+keeps_to_ranges clauses i =
+    goes_its_ways clauses i && (begins_outside clauses i && (leaves_its_ranges clauses i
+    && (ends_its_handler clauses i && (rethrows_in_catch clauses i && returns_outside clauses i))))
+
 -- ---- the rules
 
 -- whether an instruction, before which a stack is known, keeps a rule; the offsets are those that are reached
@@ -122,17 +151,12 @@ keeps scope body offsets i stack IsWithinMaxStack =
 keeps scope body offsets i stack NamesItsKind = has_kind_of_item (row_at scope body offsets i)
 keeps scope body offsets i stack HasItsOperands =
     on_slots true (λ slots. option_map_or (suits_row slots) (row_at scope body offsets i) true) stack
-keeps scope body offsets i stack GoesItsWays =
-    is_leave (action_at i) || list_all (may_go body.clauses i.at) (ways_of i)
-keeps scope body offsets i stack BeginsOutsideHandlers =
-    not (i.at == 0) || not (is_in_handler body.clauses 0)
-keeps scope body offsets i stack LeavesWell =
-    not (is_leave (action_at i)) || list_all (may_leave body.clauses i.at) (targets_in i.operand)
-keeps scope body offsets i stack EndsItsHandler = not (is_end (action_at i)) || ends_finally body.clauses i.at
-keeps scope body offsets i stack RethrowsWhatWasCaught =
-    not (is_rethrow (action_at i)) || is_in_catch body.clauses i.at
-keeps scope body offsets i stack ReturnsOutsideClauses =
-    not (is_return (action_at i)) || not (is_in_range body.clauses i.at)
+keeps scope body offsets i stack GoesItsWays = goes_its_ways body.clauses i
+keeps scope body offsets i stack BeginsOutsideHandlers = begins_outside body.clauses i
+keeps scope body offsets i stack LeavesWell = leaves_its_ranges body.clauses i
+keeps scope body offsets i stack EndsItsHandler = ends_its_handler body.clauses i
+keeps scope body offsets i stack RethrowsWhatWasCaught = rethrows_in_catch body.clauses i
+keeps scope body offsets i stack ReturnsOutsideClauses = returns_outside body.clauses i
 keeps scope body offsets i stack ReturnsItsResultAlone =
     not (is_return (action_at i))
     || on_slots true (λ slots. option_map_or (λ row. not (nat_lt row.takes (length slots)))

@@ -3,10 +3,12 @@
 //! the ranges of clauses, and the steps and handlers by which stacks flow.
 #![tactic(auto)]
 
+mod control;
 pub mod laws;
 mod ranges;
 mod steps;
 
+pub use control::keeps_to_ranges;
 pub use ranges::{
     Range, Role, begins_range, ends_finally, is_in_catch, is_in_handler, is_in_range, may_go,
     may_leave,
