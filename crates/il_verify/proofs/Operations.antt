@@ -70,7 +70,8 @@ end_is _ (Target target) = refl
 end_is Op.Endfinally (Targets targets) = refl
 end_is _ (Targets targets) = refl
 
-pub constrained_is : (op : Op) (operand : Operand) → is_constrained_prefix (action_of op operand) ≡ (is_constrained_op op && has_token operand)
+pub constrained_is : (op : Op) (operand : Operand)
+    → is_constrained_prefix (action_of op operand) ≡ (is_constrained_op op && has_token operand)
 unfolding action_of
 constrained_is Op.Constrained Nothing = refl
 constrained_is _ Nothing = refl
@@ -100,7 +101,8 @@ readonly_is _ (Target target) = refl
 readonly_is Op.Readonly (Targets targets) = refl
 readonly_is _ (Targets targets) = refl
 
-pub virtual_call_is : (op : Op) (operand : Operand) → is_virtual_call (action_of op operand) ≡ (is_virtual_call_op op && has_token operand)
+pub virtual_call_is : (op : Op) (operand : Operand)
+    → is_virtual_call (action_of op operand) ≡ (is_virtual_call_op op && has_token operand)
 unfolding action_of
 virtual_call_is Op.Callvirt Nothing = refl
 virtual_call_is _ Nothing = refl
@@ -115,7 +117,8 @@ virtual_call_is _ (Target target) = refl
 virtual_call_is Op.Callvirt (Targets targets) = refl
 virtual_call_is _ (Targets targets) = refl
 
-pub address_is : (op : Op) (operand : Operand) → is_address_of_element (action_of op operand) ≡ (is_address_op op && has_token operand)
+pub address_is : (op : Op) (operand : Operand)
+    → is_address_of_element (action_of op operand) ≡ (is_address_op op && has_token operand)
 unfolding action_of
 address_is Op.Ldelema Nothing = refl
 address_is _ Nothing = refl

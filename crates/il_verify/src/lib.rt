@@ -1,6 +1,6 @@
 //! The verifier (ECMA-335 III.1.8): in definitions under `specs/` what each operation takes from the stack, gives and
-//! can raise, and what fails, with laws that show that these mean what they should; in code the rules that ask no world,
-//! and the steps and handlers by which stacks flow.
+//! can raise, and what fails, with laws that show that these mean what they should; in code the rules that ask no
+//! world, and the steps and handlers by which stacks flow.
 #![tactic(auto)]
 
 mod control;

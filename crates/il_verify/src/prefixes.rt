@@ -5,7 +5,8 @@ ghost use Rattle.il_verify.specs.Opcodes.{has_token as has_token_of, is_address_
 ghost use Rattle.il_verify.specs.Opcodes.{is_virtual_call_op};
 ghost use Rattle.il_verify.specs.Rules.{is_address_of_element as is_address_of, is_constrained_prefix};
 ghost use Rattle.il_verify.specs.Rules.{is_entered as is_entered_of, is_prefix as is_prefix_of};
-ghost use Rattle.il_verify.specs.Rules.{is_prefix_for as is_prefix_for_of, is_readonly_prefix, is_target as is_target_of};
+ghost use Rattle.il_verify.specs.Rules.{is_prefix_for as is_prefix_for_of, is_readonly_prefix};
+ghost use Rattle.il_verify.specs.Rules.{is_target as is_target_of};
 ghost use Rattle.il_verify.specs.Rules.{fits_next as fits_next_of, is_virtual_call as is_virtual_call_of};
 ghost use Rattle.il_verify.specs.Rules.{prefixes_well as prefixes_well_of};
 
