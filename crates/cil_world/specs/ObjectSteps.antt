@@ -19,7 +19,7 @@ use Rattle.ty_load.specs.Walks.{base_type}
 use Rattle.il_verify.specs.Kinds.{Content, Compound, content_of, fits, is_reference, is_value}
 use Rattle.il_verify.specs.Raises.{NullReference, IndexOutOfRange, ArrayTypeMismatch, InvalidCast, Overflow}
 use Rattle.il_verify.specs.Scope.{Scope, Member, instance_field, static_field, type_token, system}
-use Rattle.il_stacks.specs.Types.{element_of}
+use Rattle.il_verify.specs.VectorRows.{element_of}
 use Rattle.ty_load.specs.Primitives.{core_type, type_of}
 use Rattle.cil_world.specs.Comparisons.{is_null}
 use Rattle.cil_world.specs.Contents.{box_bytes, elements_bytes, object_fields, stored}

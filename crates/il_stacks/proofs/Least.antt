@@ -1,14 +1,13 @@
 -- What the work list leaves are the least stacks, with their types in order.
-use Rattle.std.proofs.Common.{◌≡◌, ◌⊎◌, inl, inr, refl, sym, ap, subst, ◌∙◌, ℕ, ◌<◌, Bool, true, List, [], length}
+use Rattle.std.proofs.Common.{◌≡◌, inl, inr, refl, sym, subst, ◌∙◌, ℕ, Bool, true, List, length}
 use Rattle.std.proofs.Common.{Option}
-use Rattle.std.proofs.Common.{Some, None, Contains}
-use Rattle.least_flow.specs.Solution.{row, AllBelow, IsClosedAt, IsLeast, IsRowBelow, IsSolution, Tells}
+use Rattle.std.proofs.Common.{Some, None}
+use Rattle.least_flow.specs.Solution.{row, AllBelow, IsLeast, IsRowBelow, IsSolution}
 use Rattle.least_flow.specs.Telling.{IfKnown}
 use Rattle.ty_terms.specs.declared.ty.Ty.{Ty}
 use Rattle.il_stacks.specs.declared.effect.Handler.{Handler}
 use Rattle.il_stacks.specs.declared.effect.Step.{Step}
 use Rattle.il_stacks.specs.declared.stack.Stack.{Stack}
-use Rattle.il_stacks.specs.declared.stack.Stack.TheVariants.{Slots}
 use Rattle.il_stacks.specs.Bounds.{are_sound}
 use Rattle.il_stacks.specs.Flow.{AreLeastStacks, Passes, Starts}
 use Rattle.il_stacks.specs.Rounds.{stacks_by_rounds}

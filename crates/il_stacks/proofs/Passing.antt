@@ -1,7 +1,6 @@
 -- What is passed on from a step stays within the bounds, and is all that the flow of stacks says.
 use Rattle.std.proofs.Common.{◌≡◌, ◌⊎◌, inl, inr, refl, sym, ap, subst, ◌∙◌, ℕ, zero, suc, ◌+◌, ◌<◌, Bool, true}
-use Rattle.std.proofs.Common.{false, ◌&&◌}
-use Rattle.std.proofs.Common.{List, [], ◌∷◌, ◌++◌, length, map, filter, All, Contains, slice_index_or, arith}
+use Rattle.std.proofs.Common.{List, [], ◌∷◌, length, map, filter, All, Contains, slice_index_or, arith}
 use Rattle.std.specs.List.{list_all}
 use Rattle.std.proofs.lemmas.Bool.{and_parts, and_from}
 use Rattle.std.proofs.lemmas.List.Elements.{All-append, All-contains_itself, All-filter, All-map, All-weaker}
@@ -132,7 +131,9 @@ told_start facts e =
         by : (k : ℕ) → k < length {A = ℕ × Stack} ((0, Slots []) ∷ [])
             → slice_index_or {A = ℕ × Stack} ((0, Slots []) ∷ []) k (to, given) ≡ (to, given)
             → (fact : Stack) × Starts to fact × IsRisingBelow given fact
-        by zero inside is =
-            (given, (sym (ap (λ (f : ℕ × Stack). f.0) is), sym (ap (λ (f : ℕ × Stack). f.1) is)),
-            rising_reflexive given)
+        by zero inside is = (
+          given,
+          (sym (ap (λ (f : ℕ × Stack). f.0) is), sym (ap (λ (f : ℕ × Stack). f.1) is)),
+          rising_reflexive given,
+        )
         by (suc k) inside is = absurd (omega (arith, inside))

@@ -1,28 +1,28 @@
 -- Rounds end, and what they end with are the least stacks.
-use Rattle.std.proofs.Common.{◌≡◌, ◌⊎◌, ◌≢◌, ◌↔◌, inl, inr, refl, sym, ap, subst, ◌∙◌, ℕ, zero, suc, ◌+◌, ◌*◌, ◌<◌}
+use Rattle.std.proofs.Common.{◌≡◌, ◌↔◌, inl, inr, refl, sym, ap, subst, ◌∙◌, ℕ, zero, suc, ◌+◌, ◌*◌, ◌<◌}
 use Rattle.std.proofs.Common.{◌≤◌, Bool, true}
-use Rattle.std.proofs.Common.{false, not, ◌&&◌, List, [], ◌∷◌, ◌++◌, length, map, filter, fold, replicate, Option}
+use Rattle.std.proofs.Common.{false, not, List, [], ◌∷◌, ◌++◌, length, fold, replicate, Option}
 use Rattle.std.proofs.Common.{Some, None}
 use Rattle.std.proofs.Common.{All, Contains, slice_index_or, arith}
 use Rattle.std.proofs.Math.ListN.{set}
-use Rattle.std.proofs.lemmas.Bool.{and_parts, and_cases, cases_lt, cases_Bool}
+use Rattle.std.proofs.lemmas.Bool.{and_parts, and_cases, cases_lt}
 use Rattle.std.proofs.lemmas.List.{length-replicate, set_past}
 use Rattle.std.proofs.lemmas.List.Elements.{All-cons, All-nil, All-head, All-tail, All-weaker, All-contains}
 use Rattle.std.proofs.lemmas.List.Elements.{All-contains_itself}
-use Rattle.least_flow.specs.Solution.{row, IsRowBelow, AllBelow, Tells, IsClosedAt, IsSolution, IsLeast}
-use Rattle.least_flow.specs.Telling.{AreWithin, IfKnown, RowRaised, Told, height, heights, known_here, known_places}
-use Rattle.least_flow.proofs.Rows.{heights-bound, if_known, known-bound, known-none, row-none, rows-refl, rows-trans}
+use Rattle.least_flow.specs.Solution.{row, IsRowBelow, AllBelow, Tells, IsClosedAt, IsSolution}
+use Rattle.least_flow.specs.Telling.{AreWithin, IfKnown, RowRaised, Told, height, heights, known_places}
+use Rattle.least_flow.proofs.Rows.{heights-bound, if_known, known-bound, row-none, rows-refl, rows-trans}
 use Rattle.least_flow.proofs.Rows.{tells-grows, tells-less}
 use Rattle.least_flow.proofs.Raising.{IsNoted, told-none, told-one, told-outside}
 use Rattle.ty_terms.specs.declared.ty.Ty.{Ty}
 use Rattle.il_stacks.specs.declared.effect.Handler.{Handler}
 use Rattle.il_stacks.specs.declared.effect.Step.{Step}
 use Rattle.il_stacks.specs.declared.stack.Stack.{Stack}
-use Rattle.il_stacks.specs.declared.stack.Stack.TheVariants.{Slots, Clash}
+use Rattle.il_stacks.specs.declared.stack.Stack.TheVariants.{Slots}
 use Rattle.il_stacks.specs.Bounds.{IsWithin, are_sound, stack_rank, types_met}
 use Rattle.il_stacks.specs.BoundLaws.{bounded, joined_within, rank_grows, rank_more, widens}
 use Rattle.il_stacks.specs.Flow.{AreLeastStacks, Passes, Starts, passed}
-use Rattle.il_stacks.specs.FlowLaws.{monotone, passed_more}
+use Rattle.il_stacks.specs.FlowLaws.{passed_more}
 use Rattle.il_stacks.specs.Rounds.{first_table, is_row_below, is_table_below, most_rounds, one_further, one_round}
 use Rattle.il_stacks.specs.Rounds.{pass_if}
 use Rattle.il_stacks.specs.Rounds.{raised, raised_row, settled, stacks_by_rounds}
@@ -63,8 +63,11 @@ row_raised met depth k n fact (Some old) known near within raises e =
           (stack_same (joined old fact) old (rising_joined old fact (rising_within met n fact within))
           (rising_within met k old known) (joined_least old fact old (reflexive old) below) grows);
       higher = λ rose.
-          omega (arith, joined_higher met depth k n old fact deep known within
-          (unnot_false (is_below fact old) (sym e ∙ rose)));
+          omega (
+            arith,
+            joined_higher met depth k n old fact deep known within
+                (unnot_false (is_below fact old) (sym e ∙ rose)),
+          );
       joined = λ m n' earlier is h h'.
           let same : old ≡ earlier = cc in
           joined_within met m n' old fact (subst (IsWithin met m) (sym same) h) h';
@@ -423,8 +426,11 @@ heights-grow : (met : List Ty) (depth : ℕ) (table new : List (Option Stack)) �
 heights-grow met depth [] new size within h = omega arith
 heights-grow met depth (r ∷ table) [] size within h = absurd (omega (arith, size))
 heights-grow met depth (r ∷ table) (s ∷ new) size within h =
-    omega (arith, row_height-grows met depth r s (within 0) (h 0),
-    heights-grow met depth table new (omega (arith, size)) (λ place. within (suc place)) (λ place. h (suc place)))
+    omega (
+      arith,
+      row_height-grows met depth r s (within 0) (h 0),
+      heights-grow met depth table new (omega (arith, size)) (λ place. within (suc place)) (λ place. h (suc place)),
+    )
 
 -- a round in which more is told makes the table stand higher
 heights-more : (met : List Ty) (depth n : ℕ) (table new : List (Option Stack)) → length new ≡ length table
@@ -438,13 +444,19 @@ heights-more met depth n (r ∷ table) [] size within within' h lacks = absurd (
 heights-more met depth n (r ∷ table) (s ∷ new) size within within' h lacks =
     elim (and_cases (is_row_below s r) (is_table_below new table) lacks) [
       | inl here ↦
-          omega (arith, row_height-more met depth n r s (within 0) (within' 0) (h 0) here,
-          heights-grow met depth table new (omega (arith, size)) (λ place. within (suc place))
-          (λ place. h (suc place)))
+          omega (
+            arith,
+            row_height-more met depth n r s (within 0) (within' 0) (h 0) here,
+            heights-grow met depth table new (omega (arith, size)) (λ place. within (suc place))
+                (λ place. h (suc place)),
+          )
       | inr there ↦
-          omega (arith, row_height-grows met depth r s (within 0) (h 0),
-          heights-more met depth n table new (omega (arith, size)) (λ place. within (suc place))
-          (λ place. within' (suc place)) (λ place. h (suc place)) there)
+          omega (
+            arith,
+            row_height-grows met depth r s (within 0) (h 0),
+            heights-more met depth n table new (omega (arith, size)) (λ place. within (suc place))
+                (λ place. within' (suc place)) (λ place. h (suc place)) there,
+          )
     ]
 
 -- ---- all rounds
@@ -613,8 +625,9 @@ one_table objects steps handlers size table other a b =
 pub by_rounds : (objects : Ty → Bool) (steps : List Step) (handlers : List Handler) (size : ℕ)
     (table : List (Option Stack)) → are_sound steps handlers ≡ true
     → AreLeastStacks objects steps handlers size table ↔ (table ≡ stacks_by_rounds objects steps handlers size)
-by_rounds objects steps handlers size table sound =
-    (λ least. one_table objects steps handlers size table (stacks_by_rounds objects steps handlers size) least
-    (rounds_find objects steps handlers size sound),
-    λ same. subst (AreLeastStacks objects steps handlers size) (sym same)
-    (rounds_find objects steps handlers size sound))
+by_rounds objects steps handlers size table sound = (
+  λ least. one_table objects steps handlers size table (stacks_by_rounds objects steps handlers size) least
+      (rounds_find objects steps handlers size sound),
+  λ same. subst (AreLeastStacks objects steps handlers size) (sym same)
+      (rounds_find objects steps handlers size sound),
+)

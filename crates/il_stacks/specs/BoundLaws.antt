@@ -1,14 +1,13 @@
 -- Laws of depths, of the types that can be met, and of ranks: what is raised has a higher rank, and there is a highest.
 use Rattle.std.proofs.Common.{◌≡◌, refl, sym, ap, subst, ◌∙◌, ℕ, zero, suc, ◌+◌, ◌-◌, ◌*◌, ◌<◌, ◌≤◌, Bool, true, false}
-use Rattle.std.proofs.Common.{◌&&◌, ◌||◌, cond, List, [], ◌∷◌, ◌++◌, inl, inr, length, take, drop, Option, Some, None}
+use Rattle.std.proofs.Common.{◌||◌, cond, List, [], ◌∷◌, ◌++◌, inl, inr, length, take, drop, Option, Some, None}
 use Rattle.std.proofs.Common.{arith}
-use Rattle.std.proofs.Common.{◌⊎◌, slice_index_or, Contains}
+use Rattle.std.proofs.Common.{slice_index_or, Contains}
 use Rattle.std.specs.Prelude.{◌==◌, nat_lt}
 use Rattle.std.specs.List.{AllZip, list_all, flat_map}
 use Rattle.std.specs.Option.{option_map_or}
-use Rattle.std.proofs.lemmas.Bool.{and_parts, and_from, and_cases, or_cases, or_left, or_right, or_parts, cases_Bool}
+use Rattle.std.proofs.lemmas.Bool.{and_parts, and_from, and_cases, or_cases, or_left, or_right}
 use Rattle.std.proofs.lemmas.List.{length-take, length-drop, length-append}
-use Rattle.std.proofs.Math.Nat.{mul-le-mul_left}
 use Rattle.ty_terms.specs.declared.ty.Ty.{Ty}
 use Rattle.ty_terms.specs.declared.ty.Ty.TheOpen.{Ty-F}
 use Rattle.ty_terms.specs.declared.ty.Ty.TheFolds.{fold_out-Ty, map-Ty}
@@ -28,10 +27,10 @@ use Rattle.il_stacks.specs.declared.stack.Stack.{Stack}
 use Rattle.il_stacks.specs.declared.stack.Stack.TheVariants.{Slots, Clash}
 use Rattle.il_stacks.specs.Types.{same_type, has_type, is_subset, union, element_of, element_of_layer, elements_of}
 use Rattle.il_stacks.specs.Types.{nested_within, nested}
-use Rattle.il_stacks.specs.Slots.{if_same, joined_slot, is_slot_below, is_rising_slot, joined_slots, joined, is_below}
+use Rattle.il_stacks.specs.Slots.{joined_slot, is_slot_below, is_rising_slot, joined_slots, joined, is_below}
 use Rattle.il_stacks.specs.Slots.{are_slots_below}
 use Rattle.il_stacks.specs.Effects.{number_of, agreed, if_object, reference_behind, has_objects, element_slot, twice}
-use Rattle.il_stacks.specs.Effects.{of_one, of_first, of_two, given, has_operands, operands, below, behind}
+use Rattle.il_stacks.specs.Effects.{of_one, of_first, of_two, given, behind}
 use Rattle.il_stacks.specs.Bounds.{types_of_slot, slots_of_results, slots_of_effect, slots_of_step, slots_of_handler}
 use Rattle.il_stacks.specs.Bounds.{first_slots, types_met, are_sound, is_slot_within, IsWithin, how_many, slot_rank}
 use Rattle.il_stacks.specs.Bounds.{slots_rank, stack_rank}
@@ -39,7 +38,7 @@ use Rattle.il_stacks.specs.Flow.{entry, entry_slots}
 use Rattle.il_stacks.specs.SetLaws.{same_exact, same_itself, same_from, Within, within_from, within_to, union_within}
 use Rattle.il_stacks.specs.SetLaws.{rising_elements, elements_from}
 use Rattle.il_stacks.specs.SlotLaws.{SlotBelow, to_conflict, int32, int64, native, refs, pointer, weaker, view, value}
-use Rattle.il_stacks.specs.SlotLaws.{StackBelow, to_clash, by_slots, stack_from, slots_long, rising_joined_slot}
+use Rattle.il_stacks.specs.SlotLaws.{StackBelow, to_clash, by_slots, stack_from, rising_joined_slot}
 
 -- ---- types inside types
 
@@ -382,16 +381,22 @@ taken_within met objects count depth results slots closed r h =
     by : (t : Bool) → IsWithin met (depth + 1)
         (cond t (Slots (take (length slots - count) slots
         ++ given objects results (drop (length slots - count) slots))) Clash)
-    by true =
-        (omega (arith, length-append (take (length slots - count) slots)
-        (given objects results (drop (length slots - count) slots)),
-        length-take (length slots - count) slots, length-drop (length slots - count) slots,
-        given_short objects results (drop (length slots - count) slots), h.0),
-        all_append (is_slot_within met) (take (length slots - count) slots)
-        (given objects results (drop (length slots - count) slots))
-        (all_take (is_slot_within met) (length slots - count) slots h.1)
-        (given_within met objects results (drop (length slots - count) slots) closed r
-        (all_drop (is_slot_within met) (length slots - count) slots h.1)))
+    by true = (
+      omega (
+        arith,
+        length-append (take (length slots - count) slots)
+            (given objects results (drop (length slots - count) slots)),
+        length-take (length slots - count) slots,
+        length-drop (length slots - count) slots,
+        given_short objects results (drop (length slots - count) slots),
+        h.0,
+      ),
+      all_append (is_slot_within met) (take (length slots - count) slots)
+          (given objects results (drop (length slots - count) slots))
+          (all_take (is_slot_within met) (length slots - count) slots h.1)
+          (given_within met objects results (drop (length slots - count) slots) closed r
+          (all_drop (is_slot_within met) (length slots - count) slots h.1)),
+    )
     by false = tt
 
 pub behind_within : (met : List Ty) (objects : Ty → Bool) (effect : Effect) (depth : ℕ) (stack : Stack)
@@ -501,8 +506,11 @@ how_many-more (ty ∷ met) types others x w h has lacks =
           let one : cond {A = ℕ} (has_type others ty) 1 0 ≡ 1 = ap (λ t. cond t 1 0) has' in
           omega (arith, none, one, how_many-grows met types others w)
       | inr there ↦
-          omega (arith, fewer_by (has_type types ty) (has_type others ty) (w ty),
-          how_many-more met types others x w there has lacks)
+          omega (
+            arith,
+            fewer_by (has_type types ty) (has_type others ty) (w ty),
+            how_many-more met types others x w there has lacks,
+          )
     ]
 
 -- what isn't a subset has a type that is lacking

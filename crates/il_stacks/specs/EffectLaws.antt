@@ -1,10 +1,9 @@
 -- Laws of what operations leave: of stacks that tell less they leave what tells less, and types stay in order.
-use Rattle.std.proofs.Common.{◌≡◌, refl, sym, ap, subst, ◌∙◌, ℕ, zero, suc, ◌-◌, Bool, true, false, ◌&&◌, cond, List}
+use Rattle.std.proofs.Common.{◌≡◌, refl, sym, subst, ℕ, zero, suc, ◌-◌, Bool, true, false, cond, List}
 use Rattle.std.proofs.Common.{[], ◌∷◌}
-use Rattle.std.proofs.Common.{◌++◌, inl, inr, length, take, drop, Option, Some, None, arith}
+use Rattle.std.proofs.Common.{◌++◌, inl, inr, length, take, drop}
 use Rattle.std.specs.Prelude.{nat_lt}
 use Rattle.std.specs.List.{AllZip, list_all}
-use Rattle.std.specs.Option.{option_map_or}
 use Rattle.std.proofs.lemmas.Bool.{and_parts, and_from, or_cases, or_left, or_right}
 use Rattle.ty_terms.specs.declared.ty.Ty.{Ty}
 use Rattle.il_stacks.specs.declared.effect.Effect.{Effect}
@@ -13,17 +12,17 @@ use Rattle.il_stacks.specs.declared.effect.Results.{Results}
 use Rattle.il_stacks.specs.declared.effect.Results.TheVariants.{Nothing, Always, Twice, SameNumber, AgreedNumber}
 use Rattle.il_stacks.specs.declared.effect.Results.TheVariants.{FirstNumber, ReferenceBehind, Element}
 use Rattle.il_stacks.specs.declared.slot.StackSlot.{StackSlot}
-use Rattle.il_stacks.specs.declared.slot.StackSlot.TheVariants.{Int32, Int64, NativeInt, Refs, Pointer, View, Value}
+use Rattle.il_stacks.specs.declared.slot.StackSlot.TheVariants.{Int32, Int64, NativeInt, Refs}
 use Rattle.il_stacks.specs.declared.slot.StackSlot.TheVariants.{Conflict}
 use Rattle.il_stacks.specs.declared.stack.Stack.{Stack}
 use Rattle.il_stacks.specs.declared.stack.Stack.TheVariants.{Slots, Clash}
-use Rattle.il_stacks.specs.Types.{element_of, elements_of, has_type, same_type}
+use Rattle.il_stacks.specs.Types.{elements_of, has_type, same_type}
 use Rattle.il_stacks.specs.Effects.{number_of, agreed, if_object, reference_behind, has_objects, element_slot, twice}
-use Rattle.il_stacks.specs.Effects.{of_one, of_first, of_two, given, has_operands, operands, below, behind}
-use Rattle.il_stacks.specs.Slots.{is_below, is_rising_slot, is_rising_stack}
-use Rattle.il_stacks.specs.SetLaws.{Within, elements_within, rising_elements, same_exact, same_itself}
+use Rattle.il_stacks.specs.Effects.{of_one, of_first, of_two, given, behind}
+use Rattle.il_stacks.specs.Slots.{is_below}
+use Rattle.il_stacks.specs.SetLaws.{Within, elements_within, same_exact, same_itself}
 use Rattle.il_stacks.specs.SlotLaws.{SlotBelow, to_conflict, int32, int64, native, refs, pointer, weaker, view, value}
-use Rattle.il_stacks.specs.SlotLaws.{slot_refl, slots_refl, slots_long, StackBelow, to_clash, by_slots, stack_from}
+use Rattle.il_stacks.specs.SlotLaws.{slot_refl, slots_long, StackBelow, to_clash, by_slots, stack_from}
 use Rattle.il_stacks.specs.SlotLaws.{stack_to}
 
 -- ---- single results

@@ -10,7 +10,7 @@ use Rattle.il_stacks.specs.declared.effect.Results.{Results}
 use Rattle.il_stacks.specs.declared.effect.Results.TheVariants.{Nothing, Always, Twice, SameNumber, AgreedNumber}
 use Rattle.il_stacks.specs.declared.effect.Results.TheVariants.{FirstNumber, ReferenceBehind, Element}
 use Rattle.il_stacks.specs.declared.slot.StackSlot.{StackSlot}
-use Rattle.il_stacks.specs.declared.slot.StackSlot.TheVariants.{Int32, Int64, NativeInt, Refs, Pointer, View, Value}
+use Rattle.il_stacks.specs.declared.slot.StackSlot.TheVariants.{Int32, Int64, NativeInt, Refs, Pointer, View}
 use Rattle.il_stacks.specs.declared.slot.StackSlot.TheVariants.{Conflict}
 use Rattle.il_stacks.specs.declared.stack.Stack.{Stack}
 use Rattle.il_stacks.specs.declared.stack.Stack.TheVariants.{Slots, Clash}

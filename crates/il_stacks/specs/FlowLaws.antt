@@ -1,5 +1,5 @@
 -- From an offset of whose stack less is known no more is passed on.
-use Rattle.std.proofs.Common.{◌≡◌, refl, sym, ap, subst, ◌∙◌, ℕ, zero, suc, ◌<◌, Bool, true, List, [], ◌∷◌, ◌++◌, inl}
+use Rattle.std.proofs.Common.{◌≡◌, ap, subst, ℕ, zero, suc, ◌<◌, Bool, true, List, [], ◌∷◌, ◌++◌, inl}
 use Rattle.std.proofs.Common.{inr}
 use Rattle.std.proofs.Common.{length, map, filter, slice_index_or, Contains, arith}
 use Rattle.std.proofs.lemmas.List.Elements.{Contains-append_cases, Contains-append_left, Contains-append_right}
@@ -31,7 +31,9 @@ ways_more (way ∷ ways) stack other to fact zero h inside is =
     let here : way ≡ to = ap (λ (f : ℕ × Stack). f.0) is in
     let what : stack ≡ fact = ap (λ (f : ℕ × Stack). f.1) is in
     let there : (way, other) ≡ (to, other) = ap (λ t. (t, other)) here in
-    (other, (0, omega arith, there), subst (λ s. is_below s other ≡ true) what h)
+    let found : Contains {X = ℕ × Stack} ((way, other) ∷ map (λ way. (way, other)) ways) (to, other) =
+    (0, omega arith, there) in
+    (other, found, subst (λ s. is_below s other ≡ true) what h)
 ways_more (way ∷ ways) stack other to fact (suc k) h inside is =
     behind_first (way, other) (map (λ way. (way, other)) ways) to fact
     (ways_more ways stack other to fact k h (omega arith) is)

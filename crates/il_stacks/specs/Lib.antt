@@ -10,4 +10,5 @@ pub mod BoundLaws
 pub mod FlowLaws
 pub mod Rounds
 pub mod Told
+pub mod Typings
 pub mod ToldLaws

@@ -1,6 +1,6 @@
 -- Laws of slots and stacks: what is known of them has an order, in which what is joined is the least above both.
-use Rattle.std.proofs.Common.{◌≡◌, refl, sym, ap, subst, ◌∙◌, ℕ, Bool, true, false, ◌&&◌, cond, List, [], ◌∷◌, length}
-use Rattle.std.proofs.Common.{nat_eq, arith}
+use Rattle.std.proofs.Common.{◌≡◌, refl, sym, ap, ◌∙◌, Bool, true, false, cond, List, [], ◌∷◌, length}
+use Rattle.std.proofs.Common.{arith}
 use Rattle.std.specs.Prelude.{◌==◌}
 use Rattle.std.specs.List.{AllZip, list_all}
 use Rattle.std.proofs.lemmas.Bool.{and_parts, and_from, eqb-true, eq-eqb}
@@ -10,10 +10,10 @@ use Rattle.il_stacks.specs.declared.slot.StackSlot.TheVariants.{Int32, Int64, Na
 use Rattle.il_stacks.specs.declared.slot.StackSlot.TheVariants.{Conflict}
 use Rattle.il_stacks.specs.declared.stack.Stack.{Stack}
 use Rattle.il_stacks.specs.declared.stack.Stack.TheVariants.{Slots, Clash}
-use Rattle.il_stacks.specs.Types.{same_type, union, is_subset, are_rising}
+use Rattle.il_stacks.specs.Types.{same_type, union}
 use Rattle.il_stacks.specs.Slots.{if_same, joined_slot, is_slot_below, joined_slots, joined, are_slots_below, is_below}
 use Rattle.il_stacks.specs.Slots.{is_rising_slot, is_rising_stack}
-use Rattle.il_stacks.specs.SetLaws.{same_exact, same_from, same_itself, Within, within_from, within_to}
+use Rattle.il_stacks.specs.SetLaws.{same_exact, same_from, Within, within_from, within_to}
 use Rattle.il_stacks.specs.SetLaws.{within_union_left, within_union_right, union_within, rising_union, same_sets}
 
 -- ---- the order of slots, by cases

@@ -1,7 +1,7 @@
 -- What is known of slots and stacks where control comes from several instructions: ECMA-335 III.1.8.1.3, with sets of
 -- types where the standard has one type. So where two classes with one interface meet, what is known fits this
 -- interface.
-use Rattle.std.specs.Prelude.{ℕ, ◌==◌, Bool, true, false, ◌&&◌, if◌then◌else◌, IsTrue, List, [], ◌∷◌, length}
+use Rattle.std.specs.Prelude.{◌==◌, Bool, true, false, ◌&&◌, if◌then◌else◌, IsTrue, List, [], ◌∷◌, length}
 use Rattle.std.specs.List.{list_all}
 use Rattle.ty_terms.specs.declared.ty.Ty.{Ty}
 use Rattle.il_stacks.specs.declared.slot.StackSlot.{StackSlot}

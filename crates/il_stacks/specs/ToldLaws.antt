@@ -1,7 +1,6 @@
 -- Laws of the order of what is known while the work list runs.
-use Rattle.std.proofs.Common.{◌≡◌, ◌⊎◌, inl, inr, refl, sym, ap, subst, ◌∙◌, ℕ, zero, suc, ◌-◌, Bool, true, false, ◌&&◌}
+use Rattle.std.proofs.Common.{◌≡◌, inl, inr, refl, sym, subst, ℕ, ◌-◌, Bool, true, false}
 use Rattle.std.proofs.Common.{cond, List, [], ◌∷◌, ◌++◌, length, take, drop, map, filter, Option, Some, None, Contains}
-use Rattle.std.proofs.Common.{slice_index_or, arith}
 use Rattle.std.specs.Prelude.{nat_lt}
 use Rattle.std.specs.List.{list_all, flat_map}
 use Rattle.std.specs.Option.{option_map_or}
@@ -21,16 +20,16 @@ use Rattle.il_stacks.specs.declared.slot.StackSlot.TheVariants.{Int32, Int64, Na
 use Rattle.il_stacks.specs.declared.slot.StackSlot.TheVariants.{Conflict}
 use Rattle.il_stacks.specs.declared.stack.Stack.{Stack}
 use Rattle.il_stacks.specs.declared.stack.Stack.TheVariants.{Slots, Clash}
-use Rattle.il_stacks.specs.Bounds.{IsWithin, are_sound, first_slots, slots_of_effect, slots_of_handler}
+use Rattle.il_stacks.specs.Bounds.{are_sound, slots_of_effect, slots_of_handler}
 use Rattle.il_stacks.specs.Bounds.{slots_of_results}
 use Rattle.il_stacks.specs.Bounds.{slots_of_step}
 use Rattle.il_stacks.specs.BoundLaws.{all_append, all_drop, all_left, all_of_part, all_right, all_take}
-use Rattle.il_stacks.specs.Effects.{agreed, behind, element_slot, given, has_objects, if_object, number_of, of_first}
+use Rattle.il_stacks.specs.Effects.{agreed, behind, element_slot, given, has_objects, number_of}
 use Rattle.il_stacks.specs.Effects.{of_one, of_two, reference_behind, twice}
 use Rattle.il_stacks.specs.Flow.{Passes, entry, entry_slots, passed, tries}
 use Rattle.il_stacks.specs.FlowLaws.{monotone}
 use Rattle.il_stacks.specs.SetLaws.{rising_elements}
-use Rattle.il_stacks.specs.Slots.{IsBelow, is_below, is_rising_slot, is_rising_stack}
+use Rattle.il_stacks.specs.Slots.{IsBelow, is_rising_slot, is_rising_stack}
 use Rattle.il_stacks.specs.SlotLaws.{reflexive, transitive}
 use Rattle.il_stacks.specs.Told.{IsRisingBelow}
 use Rattle.il_stacks.specs.Types.{elements_of}
@@ -198,7 +197,9 @@ rising_monotone objects steps handlers sound place a b to fact h passes = elim h
   | inl same ↦
       (fact, subst (λ s. Passes objects steps handlers place s to fact) same passes, inl refl)
   | inr less ↦
-      let found = monotone objects steps handlers place a b to fact less.1 passes in
-      (found.0, found.1,
-      inr (passed_in_order objects steps handlers passes.0 a to fact sound passes.1 less.0 passes.3, found.2))
+      let found = monotone objects steps handlers place a b to fact less.1 passes in (
+        found.0,
+        found.1,
+        inr (passed_in_order objects steps handlers passes.0 a to fact sound passes.1 less.0 passes.3, found.2),
+      )
 ]

@@ -3,7 +3,8 @@ ghost use Rattle.std.specs.Prelude.{filter, slice_index_or};
 ghost use Rattle.ty_terms.specs.Canon.{is_reference_type};
 ghost use Rattle.il_stacks.specs.Bounds.{are_sound};
 ghost use Rattle.il_stacks.specs.Effects.{behind as behind_of};
-ghost use Rattle.il_stacks.specs.Flow.{AreLeastStacks, AreRising, entry as entry_of, passed, steps_rise, tries as tries_of};
+ghost use Rattle.il_stacks.specs.Flow.{AreLeastStacks, AreRising, entry as entry_of, passed, steps_rise};
+ghost use Rattle.il_stacks.specs.Flow.{tries as tries_of};
 
 use crate::effect::{Handler, Step};
 use crate::join::joined;
@@ -87,7 +88,12 @@ impl<'a> Flow for Typing<'a> {
         Ok(vec![in alloc; (0, empty)]?)
     }
 
-    fn pass(&self, alloc: Global, place: usize, known: &Stack) -> Result<Vec<(usize, Stack)>, Memory> {
+    fn pass(
+        &self,
+        alloc: Global,
+        place: usize,
+        known: &Stack,
+    ) -> Result<Vec<(usize, Stack)>, Memory> {
         match position(self.steps, place as u32) {
             Some(index) => passed_on(alloc, self.values, self.handlers, &self.steps[index], known),
             None => Ok(Vec::new(alloc)),
@@ -108,7 +114,7 @@ impl<'a> Flow for Typing<'a> {
 
     ghost monotone = { λ typing place a b to fact h passes.
         rising_monotone (is_reference_type typing.values.now) typing.steps.now typing.handlers.now typing.sound
-            place a b to fact h passes };
+        place a b to fact h passes };
 
     ghost widens = { λ typing. widens (types_met typing.steps.now typing.handlers.now) };
 

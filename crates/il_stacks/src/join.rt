@@ -25,16 +25,24 @@ fn joined_slot(alloc: Global, a: &StackSlot, b: &StackSlot) -> Result<StackSlot,
         (StackSlot::Int32, StackSlot::Int32) => Ok(StackSlot::Int32),
         (StackSlot::Int64, StackSlot::Int64) => Ok(StackSlot::Int64),
         (StackSlot::NativeInt, StackSlot::NativeInt) => Ok(StackSlot::NativeInt),
-        (StackSlot::Refs(types), StackSlot::Refs(others)) =>
-            Ok(StackSlot::Refs(unite(alloc, types.as_slice(), others.as_slice())?)),
-        (StackSlot::Pointer(a), StackSlot::Pointer(b)) =>
-            Ok(when_same(a, b, StackSlot::Pointer(a.copy(alloc)?))),
+        (StackSlot::Refs(types), StackSlot::Refs(others)) => {
+            let set = unite(alloc, types.as_slice(), others.as_slice())?;
+            Ok(StackSlot::Refs(set))
+        }
+        (StackSlot::Pointer(a), StackSlot::Pointer(b)) => {
+            let pointer = StackSlot::Pointer(a.copy(alloc)?);
+            Ok(when_same(a, b, pointer))
+        }
         (StackSlot::Pointer(a), StackSlot::View(b))
         | (StackSlot::View(a), StackSlot::Pointer(b))
-        | (StackSlot::View(a), StackSlot::View(b)) =>
-            Ok(when_same(a, b, StackSlot::View(a.copy(alloc)?))),
-        (StackSlot::Value(a), StackSlot::Value(b)) =>
-            Ok(when_same(a, b, StackSlot::Value(a.copy(alloc)?))),
+        | (StackSlot::View(a), StackSlot::View(b)) => {
+            let view = StackSlot::View(a.copy(alloc)?);
+            Ok(when_same(a, b, view))
+        }
+        (StackSlot::Value(a), StackSlot::Value(b)) => {
+            let value = StackSlot::Value(a.copy(alloc)?);
+            Ok(when_same(a, b, value))
+        }
         _ => Ok(StackSlot::Conflict),
     }
 }

@@ -12,9 +12,11 @@ mod results;
 mod sets;
 mod slot;
 mod stack;
+mod typing;
 
 pub use effect::{Effect, Handler, Results, Step};
 pub use flow::least_stacks;
 pub use laws::least_stacks_by_rounds;
 pub use slot::StackSlot;
 pub use stack::Stack;
+pub use typing::{OffsetStack, Typing};

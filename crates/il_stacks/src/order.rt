@@ -14,8 +14,10 @@ pub(crate) fn tells_slot(slot: &StackSlot, other: &StackSlot) -> bool
         (StackSlot::Int32, StackSlot::Int32)
         | (StackSlot::Int64, StackSlot::Int64)
         | (StackSlot::NativeInt, StackSlot::NativeInt) => true,
-        (StackSlot::Refs(types), StackSlot::Refs(others)) =>
-            are_contained(types.as_slice(), others.as_slice()),
+        (StackSlot::Refs(types), StackSlot::Refs(others)) => are_contained(
+            types.as_slice(),
+            others.as_slice(),
+        ),
         (StackSlot::Pointer(a), StackSlot::Pointer(b))
         | (StackSlot::Pointer(a), StackSlot::View(b))
         | (StackSlot::View(a), StackSlot::View(b))
@@ -45,8 +47,10 @@ pub(crate) fn tells(stack: &Stack, other: &Stack) -> bool
 {
     match (stack, other) {
         (_, Stack::Clash) => true,
-        (Stack::Slots(slots), Stack::Slots(others)) =>
-            tell_slots(slots.as_slice(), others.as_slice()),
+        (Stack::Slots(slots), Stack::Slots(others)) => tell_slots(
+            slots.as_slice(),
+            others.as_slice(),
+        ),
         (Stack::Clash, Stack::Slots(_)) => false,
     }
 }

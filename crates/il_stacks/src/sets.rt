@@ -84,7 +84,8 @@ fn with_element(alloc: Global, ty: &Ty, set: List<Ty>) -> Result<List<Ty>, Memor
 {
     match ty {
         Ty::Vector(element) => insert(alloc, element.get(), set.as_slice()),
-        Ty::Prim(_) | Ty::Named(_, _) | Ty::ByRef(_) | Ty::Var(_) | Ty::MVar(_) | Ty::Canon =>
-            Ok(set),
+        Ty::Prim(_) | Ty::Named(_, _) | Ty::ByRef(_) | Ty::Var(_) | Ty::MVar(_) | Ty::Canon => Ok(
+            set,
+        ),
     }
 }

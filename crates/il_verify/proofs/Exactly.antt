@@ -1,7 +1,7 @@
 -- Rounds find the least stacks of a method, and verifying tells exactly what fails in them.
-use Rattle.std.proofs.Common.{◌≡◌, ◌⊎◌, ◌↔◌, inl, inr, refl, sym, ap, subst, ◌∙◌, ℕ, zero, suc, ◌<◌, Bool, true}
+use Rattle.std.proofs.Common.{◌≡◌, ◌↔◌, refl, ap, subst, ◌∙◌, ℕ, zero, suc, ◌<◌, Bool, true}
 use Rattle.std.proofs.Common.{false, List, []}
-use Rattle.std.proofs.Common.{◌∷◌, length, find, Contains, slice_index_or, Option, Some, None, Result, Ok, Err, arith}
+use Rattle.std.proofs.Common.{◌∷◌, length, find, Contains, slice_index_or, Option, Some, None, Ok, Err, arith}
 use Rattle.std.proofs.Common.{cond}
 use Rattle.std.specs.Option.{option_map, option_map_or}
 use Rattle.ty_terms.specs.declared.names.MethodName.{MethodName}
@@ -11,14 +11,14 @@ use Rattle.il_code.specs.Reach.{end_of}
 use Rattle.least_flow.specs.Solution.{row}
 use Rattle.ty_names.specs.Modules.{World}
 use Rattle.il_stacks.specs.declared.stack.Stack.{Stack}
+use Rattle.il_stacks.specs.declared.typing.Typing.{Typing}
+use Rattle.il_stacks.specs.Typings.{typing_of}
 use Rattle.il_stacks.proofs.Rounds.{by_rounds as rounds_found}
 use Rattle.il_verify.specs.Flow.{AreLeastStacks, handlers_of_body, reached_offsets, steps_of}
 use Rattle.il_verify.specs.Kinds.{is_reference}
-use Rattle.il_verify.specs.Rules.{fails}
 use Rattle.il_verify.specs.Scope.{Scope, scope_of}
-use Rattle.il_verify.specs.Verified.{HasTyping, IsVerified, NoneFails, Typing, fails_at, first_failing, least_stacks}
-use Rattle.il_verify.specs.Verified.{stacks_in}
-use Rattle.il_verify.specs.Verified.{typed_or, typing_of, verification, verified_in}
+use Rattle.il_verify.specs.Verified.{HasTyping, IsVerified, NoneFails, fails_at, first_failing, least_stacks, typed_or}
+use Rattle.il_verify.specs.Verified.{verification, verified_in}
 use Rattle.il_verify.proofs.SoundRows.{all_sound}
 
 pub by_rounds : (scope : Scope) (body : Body) (table : List (Option Stack))
@@ -89,22 +89,25 @@ typed scope body none =
     let table : List (Option Stack) = least_stacks scope body in
     let test : Instr → Bool = λ i. fails_at scope body (reached_offsets body) i (row table i.at) in
     let nothing : find test body.code ≡ None =
-    find_none test body.code (failing_at scope body table none) in
-    (typing_of (stacks_in table body.code),
-    ap (λ (o : Option Instr). typed_or (stacks_in table body.code) (option_map (λ (i : Instr). i.at) o)) nothing)
+    find_none test body.code (failing_at scope body table none) in (
+      typing_of table (steps_of scope body),
+      ap (λ (o : Option Instr). typed_or (typing_of table (steps_of scope body)) (option_map (λ (i : Instr). i.at) o))
+          nothing,
+    )
 
 pub typing_when : (world : World) (name : MethodName) (body : Body) → IsVerified world name body
     → HasTyping world name body
 unfolding verification
 typing_when world name body v =
     let same : v.table ≡ least_stacks v.scope body = one_typing v.scope body v.table v.least in
-    let found = typed v.scope body (subst (NoneFails v.scope body) same v.none) in
-    (found.0,
-    ap (λ (o : Option Scope). option_map_or (λ scope. verified_in scope body) o (Err 0)) v.stands ∙ found.1)
+    let found = typed v.scope body (subst (NoneFails v.scope body) same v.none) in (
+      found.0,
+      ap (λ (o : Option Scope). option_map_or (λ scope. verified_in scope body) o (Err 0)) v.stands ∙ found.1,
+    )
 
-never_failing : (stacks : List (ℕ × Stack)) (o : Option ℕ) (typing : Typing) → typed_or stacks o ≡ Ok typing → o ≡ None
-never_failing stacks None typing e = refl
-never_failing stacks (Some offset) typing e = cc
+never_failing : (first : Typing) (o : Option ℕ) (typing : Typing) → typed_or first o ≡ Ok typing → o ≡ None
+never_failing first None typing e = refl
+never_failing first (Some offset) typing e = cc
 
 pub verified_when : (world : World) (name : MethodName) (body : Body) → HasTyping world name body
     → IsVerified world name body
@@ -121,6 +124,6 @@ verified_when world name body typed = by (scope_of world name body) refl typed.1
           table = least_stacks scope body;
           least = found_by_rounds scope body;
           none = none_fails scope body (least_stacks scope body)
-              (never_failing (stacks_in (least_stacks scope body) body.code)
+              (never_failing (typing_of (least_stacks scope body) (steps_of scope body))
               (first_failing scope body (reached_offsets body) (least_stacks scope body)) typed.0 e);
         }

@@ -1,5 +1,5 @@
 -- What an operation raises where its token and its prefix are known is among what its opcode raises.
-use Rattle.std.proofs.Common.{◌≡◌, refl, ℕ, Bool, true, false, not, ◌&&◌, cond, List, [], ◌∷◌}
+use Rattle.std.proofs.Common.{◌≡◌, refl, Bool, true, false, not, ◌&&◌, cond, List, [], ◌∷◌}
 use Rattle.std.specs.List.{list_any}
 use Rattle.il_verify.specs.Actions.{VectorAction, NewVector, Length, ReadElementAs, WriteElementAs, ReadElement}
 use Rattle.il_verify.specs.Actions.{WriteElement, AddressOfElement, CastAction, Box, Unbox, UnboxAny, CastClass}

@@ -1,10 +1,11 @@
 -- The offsets that rounds find are those that control comes to.
-use Rattle.std.proofs.Common.{◌≡◌, ◌⊎◌, inl, inr, refl, sym, ap, subst, ◌∙◌, ℕ, zero, suc, ◌<◌, Bool, true, false}
+use Rattle.std.proofs.Common.{◌≡◌, inl, inr, refl, sym, ap, subst, ◌∙◌, ℕ, zero, suc, ◌<◌, Bool, true, false}
 use Rattle.std.proofs.Common.{List, []}
 use Rattle.std.proofs.Common.{◌∷◌, ◌++◌, length, map, filter, Contains, slice_index_or, Option, Some, None, arith, cond}
 use Rattle.std.specs.List.{list_all, flat_map}
 use Rattle.std.specs.Option.{option_map}
-use Rattle.std.proofs.lemmas.Bool.{cases_Bool}
+use Rattle.std.specs.Prelude.{◌==◌}
+use Rattle.std.proofs.lemmas.Bool.{eq-eqb, eqb-true, or_cases, or_left, or_right}
 use Rattle.std.proofs.lemmas.List.{length-map}
 use Rattle.std.proofs.lemmas.List.Elements.{Contains-append_cases, Contains-append_left, Contains-append_right}
 use Rattle.il_code.specs.declared.body.Body.{Body}
@@ -13,7 +14,7 @@ use Rattle.il_code.specs.declared.body.Instr.{Instr}
 use Rattle.il_code.specs.Listing.{targets_in}
 use Rattle.il_code.specs.Reach.{AreReached, Leads, end_of, handlers_of, leads_of, next_of, tries}
 use Rattle.il_code.proofs.Coming.{reached_by}
-use Rattle.least_flow.specs.Solution.{row, AllBelow, IsLeast, IsRowBelow, IsSolution, Tells}
+use Rattle.least_flow.specs.Solution.{row, IsRowBelow, IsSolution}
 use Rattle.ty_terms.specs.declared.ty.Ty.{Ty}
 use Rattle.il_stacks.specs.declared.effect.Effect.TheVariants.{Unknown}
 use Rattle.il_stacks.specs.declared.effect.Handler.{Handler}
@@ -28,7 +29,7 @@ use Rattle.il_stacks.specs.Flow.{tries as tries_of}
 use Rattle.il_stacks.specs.Rounds.{stacks_by_rounds}
 use Rattle.il_stacks.specs.Slots.{IsBelow, is_rising_slot}
 use Rattle.il_stacks.proofs.Rounds.{rounds_find}
-use Rattle.il_verify.specs.Flow.{bare_handler, bare_step, comes, reached_offsets}
+use Rattle.il_verify.specs.Flow.{bare_handler, bare_step, comes, is_among, reached_offsets}
 
 -- ---- nothing is known but that control comes
 
@@ -257,3 +258,40 @@ reached_found body =
           (length-map other clash ∙ (size ∙ length-map table comes))
           (clash_solution code clauses other solution) place)));
     })
+
+-- ---- offsets as a set
+
+among_from : (offsets : List ℕ) (x : ℕ) → is_among offsets x ≡ true → Contains offsets x
+among_from [] x h = cc
+among_from (offset ∷ rest) x h =
+    elim (or_cases (offset == x) (is_among rest x) h) [
+      | inl here ↦ (0, omega arith, eqb-true offset x here)
+      | inr there ↦
+          let found = among_from rest x there in
+          (suc found.0, omega (arith, found.1), found.2)
+    ]
+
+among_to : (offsets : List ℕ) (x k : ℕ) → k < length offsets → slice_index_or offsets k x ≡ x
+    → is_among offsets x ≡ true
+among_to [] x k inside is = absurd (omega arith)
+among_to (offset ∷ rest) x zero inside is = or_left (offset == x) (is_among rest x) (eq-eqb offset x is)
+among_to (offset ∷ rest) x (suc k) inside is =
+    or_right (offset == x) (is_among rest x) (among_to rest x k (omega arith) is)
+
+same_tests : (t t' : Bool) → (t ≡ true → t' ≡ true) → (t' ≡ true → t ≡ true) → t ≡ t'
+same_tests true t' h h' = sym (h refl)
+same_tests false true h h' = h' refl
+same_tests false false h h' = refl
+
+-- two lists of the offsets that control reaches have the same ones
+pub alike : (body : Body) (offsets : List ℕ) → AreReached body.code body.clauses offsets → (x : ℕ)
+    → is_among offsets x ≡ is_among (reached_offsets body) x
+alike body offsets reached x =
+    let found : AreReached body.code body.clauses (reached_offsets body) = reached_found body in
+    same_tests (is_among offsets x) (is_among (reached_offsets body) x)
+    (λ h.
+    let there = reached.least (reached_offsets body) found.closed x (among_from offsets x h) in
+    among_to (reached_offsets body) x there.0 there.1 there.2)
+    (λ h.
+    let there = found.least offsets reached.closed x (among_from (reached_offsets body) x h) in
+    among_to offsets x there.0 there.1 there.2)

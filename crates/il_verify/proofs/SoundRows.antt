@@ -1,11 +1,10 @@
 -- What rows give lists types in rising order.
-use Rattle.std.proofs.Common.{◌≡◌, refl, ℕ, Bool, true, false, not, ◌&&◌, cond, List, [], ◌∷◌, ◌++◌, map, Option}
+use Rattle.std.proofs.Common.{◌≡◌, refl, ℕ, Bool, true, false, not, ◌&&◌, cond, List, [], ◌∷◌, map, Option}
 use Rattle.std.proofs.Common.{Some, None}
 use Rattle.std.specs.Prelude.{codes}
 use Rattle.std.specs.List.{list_all, flat_map}
 use Rattle.std.specs.Option.{option_map_or, option_and_then}
 use Rattle.std.proofs.lemmas.Bool.{and_from}
-use Rattle.num_core.specs.declared.kind.Narrow.{Narrow}
 use Rattle.num_core.specs.declared.kind.Narrow.TheVariants.{I1, U1, I2, U2, I4, U4, I8, U8}
 use Rattle.ty_terms.specs.declared.ty.Ty.{Ty}
 use Rattle.ty_load.specs.declared.item.Item.{Item}
@@ -39,7 +38,7 @@ use Rattle.il_verify.specs.Actions.{ExceptionAction, Throw, Rethrow, EndFinally,
 use Rattle.il_verify.specs.Actions.{OnBranches, ByPointers, OnFields, OnVectors, ByCasts, ByCalls, OnExceptions}
 use Rattle.il_verify.specs.Actions.{Outside}
 use Rattle.il_verify.specs.BranchRows.{branch_row}
-use Rattle.il_verify.specs.CallRows.{Prefix, call_action_row, call_row, call_tests, new_row, param_test, param_tests}
+use Rattle.il_verify.specs.CallRows.{Prefix, call_action_row, new_row, param_tests}
 use Rattle.il_verify.specs.CallRows.{result_of, virtual_receiver, virtual_row, is_readonly}
 use Rattle.il_verify.specs.CastRows.{cast_row}
 use Rattle.il_verify.specs.FieldRows.{field_row}
@@ -49,10 +48,10 @@ use Rattle.il_verify.specs.Kinds.{Content, Number, Object, Compound, Pointing, N
 use Rattle.il_verify.specs.Kinds.{is_value, slot_of, slot_of_content, slot_of_integer}
 use Rattle.il_verify.specs.NumberRows.{number_row}
 use Rattle.il_verify.specs.PlaceRows.{handle, handle_of, place_row, type_of_place}
-use Rattle.il_verify.specs.PointerRows.{pointer_row, what_is_read}
+use Rattle.il_verify.specs.PointerRows.{pointer_row}
 use Rattle.il_verify.specs.Row.{Row, giving, taking}
 use Rattle.il_verify.specs.Rows.{exception_row, row_of}
-use Rattle.il_verify.specs.Scope.{Callee, Scope, instance_field, is_constructor, item, method_token, static_field}
+use Rattle.il_verify.specs.Scope.{Scope, instance_field, is_constructor, item, method_token, static_field}
 use Rattle.il_verify.specs.Scope.{system}
 use Rattle.il_verify.specs.Scope.{text_token, type_token}
 use Rattle.il_verify.specs.VectorRows.{element_address, vector_row}

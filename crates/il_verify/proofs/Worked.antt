@@ -1,5 +1,5 @@
 -- Small bodies, worked by hand: what is known of the stack at each offset, and the least offset that fails.
-use Rattle.std.proofs.Common.{◌≡◌, ℕ, Bool, true, false, List, [], ◌∷◌, Ok, Err, refl, ap, ◌∙◌}
+use Rattle.std.proofs.Common.{◌≡◌, ℕ, Bool, true, false, List, [], ◌∷◌, map, Ok, Err, refl, ap, ◌∙◌}
 use Rattle.std.specs.Prelude.{Result, pos, negsuc}
 use Rattle.il_code.specs.declared.body.Body.{Body}
 use Rattle.il_code.specs.declared.body.Clause.{Clause}
@@ -32,7 +32,9 @@ use Rattle.il_stacks.specs.declared.stack.Stack.{Stack}
 use Rattle.il_stacks.specs.declared.stack.Stack.TheVariants.{Slots}
 use Rattle.il_stacks.specs.Slots.{joined_slot}
 use Rattle.il_verify.specs.VectorRows.{vector_row}
-use Rattle.il_verify.specs.Verified.{Typing, least_stacks, verified_in}
+use Rattle.il_verify.specs.Verified.{least_stacks, verified_in}
+use Rattle.il_stacks.specs.declared.typing.OffsetStack.{OffsetStack}
+use Rattle.il_stacks.specs.declared.typing.Typing.{Typing}
 
 -- ---- scopes and bodies
 
@@ -69,8 +71,12 @@ told : List Instr → List Clause → Result Typing ℕ
 unfolding scope body least_stacks stacks_by_rounds row_of action_of resolution Types.out-Ty denote.Hole.Carrier.out
 told code clauses = verified_in scope (body code clauses)
 
+entry : ℕ × Stack → OffsetStack
+entry pair = record { offset = pair.0; stack = pair.1 }
+
 typed : List (ℕ × Stack) → Result Typing ℕ
-typed stacks = Ok (record { stacks = stacks; values = [] })
+unfolding entry
+typed stacks = Ok (record { stacks = map entry stacks; values = [] })
 
 none : Stack
 none = Slots []
@@ -86,7 +92,7 @@ loop =
 
 goes_round : told loop [] ≡ typed ((0, none) ∷ (1, Slots (Int32 ∷ [])) ∷ (2, Slots (Int32 ∷ Int32 ∷ []))
     ∷ (3, Slots (Int32 ∷ [])) ∷ (5, none) ∷ (6, Slots (Int32 ∷ [])) ∷ (8, none) ∷ (9, Slots (Int32 ∷ [])) ∷ [])
-unfolding told loop typed none
+unfolding told loop typed none entry
 goes_round = refl
 
 -- an int32 with a native int gives a native int, and an int32 may be stored as one
@@ -98,7 +104,7 @@ native =
 
 goes_native : told native [] ≡ typed ((0, none) ∷ (1, Slots (Int32 ∷ [])) ∷ (2, Slots (Int32 ∷ NativeInt ∷ []))
     ∷ (3, Slots (NativeInt ∷ [])) ∷ (4, none) ∷ (5, Slots (Int32 ∷ [])) ∷ (6, none) ∷ (7, Slots (Int32 ∷ [])) ∷ [])
-unfolding told native typed none
+unfolding told native typed none entry
 goes_native = refl
 
 -- a finally handler begins empty, and `leave` empties the stack
@@ -110,7 +116,7 @@ handled =
 
 goes_by_handlers : told handled (finally 0 3 3 4 ∷ []) ≡ typed ((0, none) ∷ (1, Slots (Int32 ∷ [])) ∷ (3, none)
     ∷ (4, none) ∷ (5, Slots (Int32 ∷ [])) ∷ [])
-unfolding told handled finally typed none
+unfolding told handled finally typed none entry
 goes_by_handlers = refl
 
 -- ---- what fails, and where

@@ -38,13 +38,20 @@ action_at i = action_of i.op i.operand
 abbrev pub is_among : List ℕ → ℕ → Bool
 is_among offsets offset = list_any (λ other. other == offset) offsets
 
+-- an instruction that does this to the stack, and a clause's handler that begins with what was caught
+abbrev pub step_with : Instr → Effect → Step
+step_with i effect = record { at = i.at; ways = next_of i ++ targets_in i.operand; effect = effect }
+
+abbrev pub handler_with : Clause → Option StackSlot → Handler
+handler_with clause caught =
+    record { try_at = clause.try_at; try_end = clause.try_end; at = clause.handler_at; caught = caught }
+
 -- an instruction and a clause, as far as only the ways of control go
 abbrev pub bare_step : Instr → Step
-bare_step i = record { at = i.at; ways = next_of i ++ targets_in i.operand; effect = Unknown }
+bare_step i = step_with i Unknown
 
 abbrev pub bare_handler : Clause → Handler
-bare_handler clause =
-    record { try_at = clause.try_at; try_end = clause.try_end; at = clause.handler_at; caught = None }
+bare_handler clause = handler_with clause None
 
 -- that control comes to an offset, whatever is known there
 abbrev pub comes : Option Stack → Option (Unit {0})
@@ -84,12 +91,7 @@ effect_of (OnExceptions (Leave target)) row = Empties
 effect_of _ row = effect_of_row row
 
 abbrev pub step_of : Scope → Body → List ℕ → Instr → Step
-step_of scope body offsets i =
-    record {
-      at = i.at;
-      ways = next_of i ++ targets_in i.operand;
-      effect = effect_of (action_at i) (row_at scope body offsets i);
-    }
+step_of scope body offsets i = step_with i (effect_of (action_at i) (row_at scope body offsets i))
 
 abbrev pub steps_of : Scope → Body → List Step
 steps_of scope body = map (step_of scope body (reached_offsets body)) body.code
@@ -108,13 +110,7 @@ caught_by scope clause Finally = None
 caught_by scope clause Fault = None
 
 abbrev pub handler_of : Scope → Clause → Handler
-handler_of scope clause =
-    record {
-      try_at = clause.try_at;
-      try_end = clause.try_end;
-      at = clause.handler_at;
-      caught = caught_by scope clause clause.kind;
-    }
+handler_of scope clause = handler_with clause (caught_by scope clause clause.kind)
 
 abbrev pub handlers_of_body : Scope → Body → List Handler
 handlers_of_body scope body = map (handler_of scope) body.clauses

@@ -1,6 +1,6 @@
 -- Slots for the values of types, and what may be stored where: ECMA-335 I.12.1, III.1.8.1.2.3 and III.1.8.1.3.
-use Rattle.std.specs.Prelude.{ℕ, ◌==◌, Bool, true, false, not, if◌then◌else◌, List, [], ◌∷◌, codes, Option, Some, None}
-use Rattle.std.specs.Prelude.{Result, Ok, Err}
+use Rattle.std.specs.Prelude.{ℕ, ◌==◌, Bool, true, false, not, if◌then◌else◌, List, [], ◌∷◌, filter, codes, Option}
+use Rattle.std.specs.Prelude.{Some, None, Result, Ok, Err}
 use Rattle.std.specs.List.{list_all}
 use Rattle.num_core.specs.declared.kind.Narrow.{Narrow}
 use Rattle.num_core.specs.declared.kind.Narrow.TheVariants.{I1, U1, I2, U2, I4, U4, I8, U8}
@@ -10,7 +10,8 @@ use Rattle.ty_terms.specs.declared.ty.Ty.{Ty}
 use Rattle.ty_terms.specs.declared.ty.Ty.TheOpen.{Ty-F}
 use Rattle.ty_terms.specs.declared.ty.Ty.TheViews.{out-Ty}
 use Rattle.ty_load.specs.declared.fault.ResolveFault.{ResolveFault}
-use Rattle.ty_names.specs.Modules.{World}
+use Rattle.ty_names.specs.Definitions.{is_literal}
+use Rattle.ty_names.specs.Modules.{World, tables_at}
 use Rattle.ty_load.specs.Primitives.{system_type}
 use Rattle.ty_load.specs.Bases.{is_id, is_value_type, named_base_definition, closed_if}
 use Rattle.ty_load.specs.Cycles.{instance_fields}
@@ -83,11 +84,15 @@ abbrev pub is_enum : World → TypeId → Bool
 is_enum world id =
     closed_if (λ base. is_id base (system_type world (codes "Enum"))) (named_base_definition world id)
 
+-- the instance fields that have a place: a literal one has none (II.16.1.2)
+abbrev pub placed_fields : World → TypeId → List ℕ
+placed_fields world id = filter (λ row. not (is_literal (tables_at world id.module) row)) (instance_fields world id)
+
 -- An enum, which extends System.Enum and has one instance field, of an integer type, is as that field (I.8.5.2).
 abbrev pub content_of_named : World → Ty → TypeId → Content
 content_of_named world ty id =
     if not (is_value_type world id) then Object
-    else if is_enum world id then content_by_fields world ty id (instance_fields world id)
+    else if is_enum world id then content_by_fields world ty id (placed_fields world id)
     else Compound ty
 
 abbrev pub content_of_layer : World → Ty → Ty-F Ty → Content

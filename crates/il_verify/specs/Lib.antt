@@ -14,6 +14,7 @@ pub mod Rows
 pub mod Flow
 pub mod Ranges
 pub mod Rules
+pub mod Opcodes
 pub mod Verified
 pub mod Raises
 pub mod Inside

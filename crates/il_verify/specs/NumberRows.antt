@@ -1,5 +1,5 @@
 -- Arithmetic and conversion: ECMA-335 III.1.5, III.3.1 to III.3.3, III.3.27 to III.3.32, III.3.48 to III.3.67.
-use Rattle.std.specs.Prelude.{Bool, true, ◌&&◌, [], ◌∷◌}
+use Rattle.std.specs.Prelude.{Bool, ◌&&◌, [], ◌∷◌}
 use Rattle.il_stacks.specs.Effects.{agreed}
 use Rattle.il_stacks.specs.declared.effect.Results.TheVariants.{Always, SameNumber, AgreedNumber, FirstNumber}
 use Rattle.il_stacks.specs.declared.slot.StackSlot.{StackSlot}

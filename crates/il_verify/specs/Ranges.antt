@@ -6,23 +6,20 @@ use Rattle.std.specs.Option.{option_map_or}
 use Rattle.il_code.specs.declared.body.Clause.{Clause}
 use Rattle.il_code.specs.declared.body.ClauseKind.{ClauseKind}
 use Rattle.il_code.specs.declared.body.ClauseKind.TheVariants.{Catch, Filter, Finally, Fault}
+use Rattle.il_verify.specs.declared.ranges.Range.{Range}
+use Rattle.il_verify.specs.declared.ranges.Role.{Role}
+use Rattle.il_verify.specs.declared.ranges.Role.TheVariants.{Try, Handler}
 
--- what a range is for
-pub data Role : Type 0 where
-  Try : Role
-  Handler : ClauseKind → Role
+-- what a clause guards, and its handler
+abbrev pub try_range : Clause → Range
+try_range clause = record { begin = clause.try_at; end = clause.try_end; role = Try }
 
--- the offsets from one on, and up to another
-pub record Range : Type 0 where
-  pub begin : ℕ
-  pub end : ℕ
-  pub role : Role
+abbrev pub handler_range : Clause → Range
+handler_range clause = record { begin = clause.handler_at; end = clause.handler_end; role = Handler clause.kind }
 
 -- each clause has two ranges
 abbrev pub ranges_of_clause : Clause → List Range
-ranges_of_clause clause =
-    record { begin = clause.try_at; end = clause.try_end; role = Try }
-    ∷ record { begin = clause.handler_at; end = clause.handler_end; role = Handler clause.kind } ∷ []
+ranges_of_clause clause = try_range clause ∷ handler_range clause ∷ []
 
 abbrev pub ranges_of : List Clause → List Range
 ranges_of clauses = flat_map ranges_of_clause clauses

@@ -16,7 +16,7 @@ use Rattle.il_verify.specs.Scope.{Scope}
 use Rattle.il_stacks.specs.declared.effect.Results.TheVariants.{Nothing, Always, Element}
 use Rattle.il_stacks.specs.declared.slot.StackSlot.{StackSlot}
 use Rattle.il_stacks.specs.declared.slot.StackSlot.TheVariants.{NativeInt, Refs, Pointer, View, Conflict}
-use Rattle.il_stacks.specs.Types.{element_of}
+pub use Rattle.il_stacks.specs.Types.{element_of}
 
 abbrev pub is_vector_type : Ty → Bool
 is_vector_type ty = option_map_or (λ element. true) (element_of ty) false

@@ -1,22 +1,17 @@
 -- Which methods are verified, and what is known of the stacks of one that is: ECMA-335 III.1.8. The least stacks are
 -- defined by what they tell, and computed by rounds.
-use Rattle.std.specs.Prelude.{◌≡◌, ℕ, Bool, true, false, if◌then◌else◌, List, [], ◌∷◌, ◌++◌, find, fold, Contains}
-use Rattle.std.specs.Prelude.{Option, Some, None, Result, Ok, Err}
-use Rattle.std.specs.List.{list_any, flat_map}
+use Rattle.std.specs.Prelude.{◌≡◌, ℕ, Bool, false, List, find, Contains, Option, Some, None, Result, Ok, Err}
 use Rattle.std.specs.Option.{option_map, option_map_or}
 use Rattle.ty_terms.specs.declared.names.MethodName.{MethodName}
-use Rattle.ty_terms.specs.declared.ty.Ty.{Ty}
 use Rattle.il_code.specs.declared.body.Body.{Body}
 use Rattle.il_code.specs.declared.body.Instr.{Instr}
 use Rattle.il_code.specs.Reach.{end_of}
 use Rattle.least_flow.specs.Solution.{row}
 use Rattle.ty_names.specs.Modules.{World}
-use Rattle.il_stacks.specs.declared.slot.StackSlot.{StackSlot}
-use Rattle.il_stacks.specs.declared.slot.StackSlot.TheVariants.{Value}
 use Rattle.il_stacks.specs.declared.stack.Stack.{Stack}
-use Rattle.il_stacks.specs.declared.stack.Stack.TheVariants.{Slots, Clash}
+pub use Rattle.il_stacks.specs.declared.typing.Typing.{Typing}
 use Rattle.il_stacks.specs.Rounds.{stacks_by_rounds}
-use Rattle.il_stacks.specs.Types.{same_type}
+use Rattle.il_stacks.specs.Typings.{typing_of}
 use Rattle.il_verify.specs.Flow.{AreLeastStacks, handlers_of_body, reached_offsets, steps_of}
 use Rattle.il_verify.specs.Kinds.{is_reference}
 use Rattle.il_verify.specs.Rules.{fails}
@@ -56,39 +51,14 @@ first_failing scope body offsets table =
 
 -- ---- what verifying tells
 
--- Each reached offset with its stack, in rising order, and the value types in these stacks, each once, in order of
--- offsets and of one stack from the bottom.
-pub record Typing : Type 0 where
-  pub stacks : List (ℕ × Stack)
-  pub values : List Ty
-
-abbrev pub stacks_in : List (Option Stack) → List Instr → List (ℕ × Stack)
-stacks_in table [] = []
-stacks_in table (i ∷ code) = option_map_or (λ stack. (i.at, stack) ∷ []) (row table i.at) [] ++ stacks_in table code
-
-abbrev pub values_of_slot : StackSlot → List Ty
-values_of_slot (Value ty) = ty ∷ []
-values_of_slot _ = []
-
-abbrev pub values_of_stack : Stack → List Ty
-values_of_stack (Slots slots) = flat_map values_of_slot slots
-values_of_stack Clash = []
-
-abbrev pub added : List Ty → Ty → List Ty
-added types ty = if list_any (same_type ty) types then types else types ++ (ty ∷ [])
-
-abbrev pub typing_of : List (ℕ × Stack) → Typing
-typing_of stacks =
-    record { stacks = stacks; values = fold added [] (flat_map (λ entry. values_of_stack entry.1) stacks) }
-
-abbrev pub typed_or : List (ℕ × Stack) → Option ℕ → Result Typing ℕ
-typed_or stacks (Some offset) = Err offset
-typed_or stacks None = Ok (typing_of stacks)
+abbrev pub typed_or : Typing → Option ℕ → Result Typing ℕ
+typed_or typing (Some offset) = Err offset
+typed_or typing None = Ok typing
 
 abbrev pub verified_in : Scope → Body → Result Typing ℕ
 verified_in scope body =
     let table : List (Option Stack) = least_stacks scope body in
-    typed_or (stacks_in table body.code) (first_failing scope body (reached_offsets body) table)
+    typed_or (typing_of table (steps_of scope body)) (first_failing scope body (reached_offsets body) table)
 
 -- The typing of a method by its body, or the least offset that fails. One whose signature or locals don't resolve is
 -- no method that programs have, and fails at 0.

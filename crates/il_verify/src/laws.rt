@@ -1,5 +1,5 @@
 //! Laws of the definitions. Each function does nothing, and ensures its laws of all values.
-ghost use Rattle.std.specs.Prelude.{◌≡◌, ◌↔◌, IsTrue, List, [], ◌∷◌, Option};
+ghost use Rattle.std.specs.Prelude.{◌≡◌, ◌↔◌, ℕ, IsTrue, List, [], ◌∷◌, Option};
 ghost use Rattle.std.specs.List.{list_any};
 ghost use Rattle.ty_terms.specs.declared.names.MethodName.{MethodName};
 ghost use Rattle.il_code.specs.declared.body.Body.{Body};
@@ -12,7 +12,7 @@ ghost use Rattle.il_verify.specs.Raises.{Raised, is_outside, numbers_with, raise
 ghost use Rattle.il_verify.specs.Raises.{NullReference, IndexOutOfRange};
 ghost use Rattle.il_verify.specs.Raises.{ArrayTypeMismatch, InvalidCast, Overflow, DivideByZero};
 ghost use Rattle.il_code.specs.Reach.{AreReached};
-ghost use Rattle.il_verify.specs.Flow.{AreLeastStacks, reached_offsets};
+ghost use Rattle.il_verify.specs.Flow.{AreLeastStacks, is_among, reached_offsets};
 ghost use Rattle.il_verify.specs.Scope.{Scope};
 ghost use Rattle.il_verify.specs.Verified.{HasTyping, IsVerified, least_stacks};
 
@@ -22,9 +22,11 @@ pub fn least_stacks_by_rounds()
         AreLeastStacks scope body table ↔ (table ≡ least_stacks scope body) }
 {}
 
-/// The offsets that verifying goes by are those that control reaches.
+/// The offsets that verifying goes by are those that control reaches; any list of these has the same ones.
 pub fn offsets_reached()
-    ensures { (body : Body) → AreReached body.code body.clauses (reached_offsets body) }
+    ensures reached { (body : Body) → AreReached body.code body.clauses (reached_offsets body) }
+    ensures alike { (body : Body) (offsets : List ℕ) → AreReached body.code body.clauses offsets → (offset : ℕ) →
+        is_among offsets offset ≡ is_among (reached_offsets body) offset }
 {}
 
 /// A method is verified exactly where verifying gives a typing.

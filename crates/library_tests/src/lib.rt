@@ -17,3 +17,5 @@ mod machine;
 mod numbers;
 #[cfg(test)]
 mod selected;
+#[cfg(test)]
+mod stacks;

@@ -1,8 +1,5 @@
 use Rattle.std.proofs.Common.{◌≡◌, ◌∙◌, ℕ, List, All, ◌+◌, Ok, Err, Result, IfOk, slice_index_or, ap, subst, sym}
-use Rattle.std.proofs.lemmas.List.Elements.{All-nil}
-use Rattle.num_core.specs.declared.memory.Memory.{Memory}
 use Rattle.least_flow.specs.Solution.{AreTold}
-use Rattle.ty_terms.specs.declared.ty.Ty.{Ty}
 use Rattle.ty_terms.specs.Canon.{is_reference_type}
 use Rattle.il_stacks.specs.declared.effect.Handler.{Handler}
 use Rattle.il_stacks.specs.declared.effect.Step.{Step}
