@@ -1,0 +1,3 @@
+mod Ending
+mod Lengths
+mod PartsOf
