@@ -1,5 +1,5 @@
 -- What is planned of an image: its two segments, its parts, and the map from addresses to offsets in CIL.
-use Rattle.std.specs.Prelude.{◌≡◌, ℕ, ◌+◌, ◌-◌, ◌*◌, ◌==◌, ◌&&◌, Bool, nat_le, nat_lt, not}
+use Rattle.std.specs.Prelude.{◌≡◌, ℕ, ◌+◌, ◌-◌, ◌*◌, ◌≤◌, ◌==◌, ◌&&◌, Bool, nat_le, nat_lt, not}
 use Rattle.std.specs.Prelude.{if◌then◌else◌, List, [], ◌∷◌, ◌++◌, length, map, Option}
 use Rattle.std.specs.Prelude.{Some, None}
 use Rattle.std.specs.List.{list_all}
@@ -9,7 +9,7 @@ use Rattle.ty_terms.specs.declared.nodes.Part.{Part}
 use Rattle.ty_terms.specs.declared.nodes.PartKind.{PartKind}
 use Rattle.ty_terms.specs.declared.nodes.PartKind.TheVariants.{Header, Runtime, Code}
 use Rattle.ty_terms.specs.declared.nodes.PartKind.TheVariants.{Pad}
-use Rattle.elf_file.specs.Elf.{base, headers_size, up_to_page}
+use Rattle.elf_file.specs.Elf.{base, headers_size, text_size as text_size_of, up_to_page}
 use Rattle.elf_file.specs.declared.layout.ElfLayout.{ElfLayout}
 use Rattle.image_plan.specs.Places.{address_of, code_at, code_size, front_at, routines_at, table_size}
 use Rattle.image_plan.specs.Places.{tables_at, tables_end, text_end, zeros}
@@ -66,6 +66,11 @@ too_large pieces bounds =
     if not (nat_le (text_size pieces) most_bytes) then Some (text_size pieces)
     else if not (nat_le (rest_size pieces bounds) most_bytes) then Some (rest_size pieces bounds)
     else None
+
+-- what a file may be written of
+pub record SegmentsFit (layout : ElfLayout) : Type 0 where
+  pub text : text_size_of layout ≤ most_bytes
+  pub rest : length layout.rest + layout.zeros ≤ most_bytes
 
 -- ---- parts of the file, in which each byte stands as far from the first as in memory
 

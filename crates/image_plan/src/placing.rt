@@ -2,7 +2,7 @@ ghost use Rattle.std.specs.Prelude.{◌≡◌, ◌<◌, length, None, true, IfEr
 ghost use Rattle.image_plan.specs.Ends.{HasEnds};
 ghost use Rattle.image_plan.specs.Found.{address_in};
 ghost use Rattle.image_plan.specs.Places.{root_at as root_at_of, routine_begins, routines, tables_at};
-ghost use Rattle.image_plan.specs.Planned.{TellsLimit, is_placeable as is_placeable_of, layout_of, layout_with, map_of, parts_of, too_large};
+ghost use Rattle.image_plan.specs.Planned.{SegmentsFit, TellsLimit, is_placeable as is_placeable_of, layout_of, layout_with, map_of, parts_of, too_large};
 ghost use Rattle.image_plan.specs.Written.{routine_bytes, text_with};
 
 use crate::addresses::{Addresses, addresses_of};
@@ -119,6 +119,8 @@ pub fn place(alloc: Global, pieces: &Pieces, bounds: Bounds) -> Result<Plan, Pla
     ensures parts { IfOk result (λ plan. plan.parts ≡ parts_of pieces.now) }
     ensures map { IfOk result (λ plan. plan.map ≡ map_of pieces.now) }
     ensures fits { OnOk result (too_large pieces.now bounds ≡ None) }
+    // So a file can be written of it.
+    ensures segments { IfOk result (λ plan. SegmentsFit plan.layout) }
     ensures limit { IfErr result (TellsLimit pieces.now bounds) }
 {
     let runtime = all_routines(alloc)?;
