@@ -1,28 +1,18 @@
-use byteorder::{ByteOrder, LittleEndian};
+use elf_file::{load_elf, write_elf};
 use ilc_io::{MemSink, MemSource};
+use image_plan::{CodePiece, Pieces, TablePiece, is_placeable, place};
 use lir_core::{
     Argument, BinaryOperation, Block, Callee, CheckedOperation, DivisionPart, LirBody, LirOp,
     Place, Test, check,
 };
-use num_core::{Fix, FixKind, Kind, List, Memory, Narrow};
-use rt_code::{Routine, routine};
-use rv_gen::{Code, select};
-use rv_isa::encode;
-use rv_step::{Machine, Segment};
+use num_core::{Bounds, Bytes, Fix, FixKind, Kind, List, Memory, Narrow};
+use rt_code::Routine;
+use rv_gen::select;
+use rv_step::Machine;
 use std::alloc::Global;
 use std::process::Abort;
 use std::test::Fail;
-
-/// Where the machine's one segment begins, and where in it the routines, the root and the heap do.
-const AT: u64 = 0x1_0000;
-
-const ROUTINES_AT: u64 = 24;
-
-const ROOT: u64 = 0x8000;
-
-const HEAP: u64 = 0x8800;
-
-const SIZE: usize = 0xa100;
+use ty_terms::{MethodId, MethodName, PartKind, Primitive, Ty};
 
 /// How many bytes of heap and, mostly, of stack a program may use.
 const HEAP_BOUND: u64 = 0x800;
@@ -31,16 +21,6 @@ const STACK_BOUND: u64 = 0x1000;
 
 /// What the first body gets as its argument.
 const ARGUMENT: u64 = 263;
-
-static ROUTINES: [Routine; 7] = [
-    Routine::Start,
-    Routine::End,
-    Routine::WriteByte,
-    Routine::ReadByte,
-    Routine::StackBound,
-    Routine::HeapBound,
-    Routine::Unhandled,
-];
 
 // ---- programs
 
@@ -377,150 +357,106 @@ fn returns_its_argument(alloc: Global) -> Result<LirBody, Memory> {
 // ---- linking
 
 /// Memory that is filled from its begin on, the begins of routines and of bodies, and what takes an address.
-#[derive(Drop)]
-struct Image {
-    bytes: List<u8>,
-    routines: List<u64>,
-    bodies: List<u64>,
-    fixes: List<(usize, Fix)>,
+/// A method for bodies of no assembly.
+fn method(alloc: Global) -> MethodName {
+    MethodName {
+        owner: Ty::Prim(Primitive::Object),
+        method: MethodId { module: 0, row: 1 },
+        args: List::new(alloc),
+    }
 }
 
-/// Memory with the address of the root, the bounds and the routines.
-fn with_routines(alloc: Global, stack: u64) -> Result<Image, Fail> {
-    let mut image = Image {
-        bytes: List::new(alloc),
-        routines: List::new(alloc),
-        bodies: List::new(alloc),
-        fixes: List::new(alloc),
-    };
-    for number in [AT + ROOT, HEAP_BOUND, stack] {
-        image.bytes.extend_from_slice(&number.to_le_bytes())?;
+/// Adds the code of a body, if it is sound.
+fn add_body(alloc: Global, code: &mut List<CodePiece>, body: &LirBody) -> Result<(), Memory> {
+    if !check(body) {
+        return Ok(());
     }
-    for which in &ROUTINES {
-        let begin = AT.saturating_add(image.bytes.len() as u64);
-        image.routines.extend_from_slice(&[begin])?;
-        let code = routine(alloc, *which)?;
-        for ins in code.as_slice() {
-            push_word(&mut image.bytes, encode(ins))?;
+    let number = code.len() as u32;
+    let piece = CodePiece {
+        method: method(alloc),
+        nodes: List::from_slice(alloc, &[number])?,
+        code: select(alloc, body)?,
+    };
+    code.push(piece).map_err(|_| Memory)
+}
+
+/// What the runtime finds the first body by: its address, its argument, and how far behind the heap begins.
+fn root(alloc: Global) -> Result<TablePiece, Memory> {
+    let mut bytes = List::new(alloc);
+    for number in [0, ARGUMENT, 24] {
+        bytes.extend_from_slice(&number.to_le_bytes())?;
+    }
+    let first = Fix {
+        at: 0,
+        kind: FixKind::Code,
+        item: 0,
+    };
+    Ok(TablePiece {
+        kind: PartKind::Table,
+        nodes: List::from_slice(alloc, &[0])?,
+        gives: List::new(alloc),
+        bytes,
+        fixes: List::from_slice(alloc, &[first])?,
+    })
+}
+
+/// What the image of a program is made of.
+fn pieces(alloc: Global, bodies: &[LirBody]) -> Result<Pieces, Memory> {
+    let mut code = List::new(alloc);
+    for body in bodies {
+        add_body(alloc, &mut code, body)?;
+    }
+    let mut tables = List::new(alloc);
+    tables.push(root(alloc)?).map_err(|_| Memory)?;
+    Ok(Pieces {
+        root: 0,
+        code,
+        tables,
+    })
+}
+
+/// Bounds with few bytes of stack, or as many as mostly.
+fn bounds(few: bool) -> Bounds {
+    let heap = HEAP_BOUND;
+    if few {
+        Bounds { heap, stack: 304 }
+    } else {
+        Bounds {
+            heap,
+            stack: STACK_BOUND,
         }
     }
-    Ok(image)
 }
 
-fn push_word(bytes: &mut List<u8>, word: u32) -> Result<(), Memory> {
-    let mut four = [0; 4];
-    LittleEndian::write_u32(&mut four, word);
-    bytes.extend_from_slice(&four)
-}
-
-/// Adds a body, if it is sound.
-fn add_body(alloc: Global, image: &mut Image, body: &LirBody) -> Result<(), Fail> {
-    if check(body) {
-        let code = select(alloc, body)?;
-        add_code(image, &code)?;
+/// The executable file of a program.
+fn file(alloc: Global, bodies: &[LirBody], bounds: Bounds) -> Result<Bytes, Memory> {
+    let pieces = pieces(alloc, bodies)?;
+    if !is_placeable(&pieces) {
+        return Err(Memory);
     }
-    Ok(())
-}
-
-/// Adds the code of a body.
-fn add_code(image: &mut Image, code: &Code) -> Result<(), Memory> {
-    let begin = image.bytes.len();
-    let address = AT.saturating_add(begin as u64);
-    image.bodies.extend_from_slice(&[address])?;
-    for word in code.words.as_slice() {
-        push_word(&mut image.bytes, *word)?;
+    match place(alloc, &pieces, bounds) {
+        Ok(plan) => write_elf(alloc, &plan.layout),
+        Err(_) => Err(Memory),
     }
-    for fix in code.fixes.as_slice() {
-        let place = begin.saturating_add((fix.at as usize).saturating_mul(4));
-        image.fixes.extend_from_slice(&[(place, *fix)])?;
-    }
-    Ok(())
-}
-
-/// The address that a fix names.
-fn named(routines: &[u64], bodies: &[u64], fix: Fix) -> u64 {
-    let begins = match fix.kind {
-        FixKind::Routine => routines,
-        FixKind::Code | FixKind::Dict | FixKind::Item => bodies,
-    };
-    match begins.get(fix.item as usize) {
-        Some(begin) => *begin,
-        None => 0,
-    }
-}
-
-/// Puts the distance of an address into the two words at a place.
-fn put(bytes: &mut [u8], place: usize, address: u64) {
-    if place >= bytes.len() || bytes.len() - place < 8 {
-        return;
-    }
-    let from = AT.wrapping_add(place as u64);
-    let distance = (address.wrapping_sub(from) % (1 << 32)) as u32;
-    let upper = distance.wrapping_add(2048) & 0xffff_f000;
-    let first = LittleEndian::read_u32(&bytes[place..place + 4]);
-    let second = LittleEndian::read_u32(&bytes[place + 4..place + 8]);
-    LittleEndian::write_u32(&mut bytes[place..place + 4], first | upper);
-    LittleEndian::write_u32(
-        &mut bytes[place + 4..place + 8],
-        second | distance.wrapping_mul(0x10_0000),
-    );
-}
-
-/// The memory of a program.
-fn memory(alloc: Global, bodies: &[LirBody], stack: u64) -> Result<List<u8>, Fail> {
-    let mut image = with_routines(alloc, stack)?;
-    for body in bodies {
-        add_body(alloc, &mut image, body)?;
-    }
-    let Image {
-        bytes,
-        routines,
-        bodies,
-        fixes,
-    } = image;
-    let first = match bodies.get(0) {
-        Some(first) => *first,
-        None => 0,
-    };
-    let mut bytes = bytes.into_vec();
-    for (place, fix) in fixes.as_slice() {
-        let address = named(routines.as_slice(), bodies.as_slice(), *fix);
-        put(bytes.as_mut_slice(), *place, address);
-    }
-    let mut memory = List::from_slice(alloc, bytes.as_slice())?;
-    memory.resize(ROOT as usize, 0)?;
-    for number in [first, ARGUMENT, HEAP - ROOT] {
-        memory.extend_from_slice(&number.to_le_bytes())?;
-    }
-    memory.resize(SIZE, 0)?;
-    Ok(memory)
 }
 
 /// The machine that runs a program.
-fn machine(alloc: Global, bodies: &[LirBody], stack: u64) -> Result<Machine, Fail> {
-    let mut segments = List::new(alloc);
-    let segment = Segment {
-        at: AT,
-        bytes: memory(alloc, bodies, stack)?,
-        read: true,
-        write: true,
-        execute: true,
-    };
-    segments.push(segment).map_err(|_| Memory)?;
-    Ok(Machine::new(alloc, segments, AT + ROUTINES_AT)?)
+fn machine(alloc: Global, bodies: &[LirBody], few: bool) -> Result<Machine, Fail> {
+    let file = file(alloc, bodies, bounds(few))?;
+    Ok(load_elf(alloc, file.as_slice())?)
 }
 
-/// Whether a program with so many bytes of stack ends with this status, this output and this error text.
+/// Whether a program, with few bytes of stack or not, ends with this status, this output and this error text.
 fn comes_to(
     alloc: Global,
     bodies: List<LirBody>,
-    stack: u64,
+    few: bool,
     input: &[u8],
     status: u8,
     output: &[u8],
     error: &[u8],
 ) -> Result<bool, Fail> {
-    let mut m = machine(alloc, bodies.as_slice(), stack)?;
+    let mut m = machine(alloc, bodies.as_slice(), few)?;
     let mut input = MemSource::new(alloc, input, &[])?;
     let mut out = MemSink::new(alloc, &[])?;
     let mut err = MemSink::new(alloc, &[])?;
@@ -546,28 +482,28 @@ fn two(alloc: Global, first: LirBody, second: LirBody) -> Result<List<LirBody>, 
 
 fn echoes_all(alloc: Global) -> Result<bool, Fail> {
     let bodies = one(alloc, echoes(alloc)?)?;
-    comes_to(alloc, bodies, STACK_BOUND, b"h\xff\0i", 4, b"h\xff\0i", b"")
+    comes_to(alloc, bodies, false, b"h\xff\0i", 4, b"h\xff\0i", b"")
 }
 
 fn counts_calls(alloc: Global) -> Result<bool, Fail> {
     let first = calls_with(alloc, 11)?;
     let bodies = two(alloc, first, fibonacci(alloc)?)?;
-    comes_to(alloc, bodies, STACK_BOUND, b"", 89, b"", b"")
+    comes_to(alloc, bodies, false, b"", 89, b"", b"")
 }
 
 /// Whether the sum of variables is this behind a call of a body with variables.
 fn sums(alloc: Global, outer: &[u32], inner: &[u32], status: u8) -> Result<bool, Fail> {
     let first = keeps_variables(alloc, outer, true)?;
     let bodies = two(alloc, first, keeps_variables(alloc, inner, false)?)?;
-    comes_to(alloc, bodies, STACK_BOUND, b"", status, b"", b"")
+    comes_to(alloc, bodies, false, b"", status, b"", b"")
 }
 
-fn reaches_the_bound(alloc: Global, stack: u64) -> Result<bool, Fail> {
+fn reaches_the_bound(alloc: Global, few: bool) -> Result<bool, Fail> {
     let bodies = one(alloc, never_ends(alloc)?)?;
     comes_to(
         alloc,
         bodies,
-        stack,
+        few,
         b"",
         134,
         b"",
@@ -578,13 +514,13 @@ fn reaches_the_bound(alloc: Global, stack: u64) -> Result<bool, Fail> {
 fn clears(alloc: Global) -> Result<bool, Fail> {
     let first = clears_what_it_gave(alloc)?;
     let bodies = two(alloc, first, subtracts(alloc)?)?;
-    comes_to(alloc, bodies, STACK_BOUND, b"", 2, b"", b"")
+    comes_to(alloc, bodies, false, b"", 2, b"", b"")
 }
 
 /// Whether a body ends with this status, and writes nothing.
 fn ends(alloc: Global, body: LirBody, status: u8) -> Result<bool, Fail> {
     let bodies = one(alloc, body)?;
-    comes_to(alloc, bodies, STACK_BOUND, b"", status, b"", b"")
+    comes_to(alloc, bodies, false, b"", status, b"", b"")
 }
 
 static EIGHT: [u32; 8] = [8, 9, 10, 11, 12, 13, 14, 15];
@@ -612,8 +548,8 @@ fn eight_and_nine_variables(rt: HostRuntime) -> Result<(), Fail> {
 
 #[test]
 fn bound_of_the_stack(rt: HostRuntime) -> Result<(), Fail> {
-    assert!(rt; reaches_the_bound(rt.alloc(), STACK_BOUND)?);
-    assert!(rt; reaches_the_bound(rt.alloc(), 304)?);
+    assert!(rt; reaches_the_bound(rt.alloc(), false)?);
+    assert!(rt; reaches_the_bound(rt.alloc(), true)?);
     Ok(())
 }
 

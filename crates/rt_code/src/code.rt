@@ -33,6 +33,7 @@ const FAILED: i16 = 134;
 /// stack.
 #[tactic(auto, using(crate::proofs::Whole::has_effect))]
 pub fn routine(alloc: Global, which: Routine) -> Result<List<Ins>, Memory>
+    ensures code { IfOk result (λ code. code ≡ code_of which) }
     ensures effect { IfOk result (HasEffect which) }
 {
     instructions(alloc, which)

@@ -1,0 +1,4 @@
+mod Ending
+mod Fitting
+mod Lengths
+mod PartsOf
