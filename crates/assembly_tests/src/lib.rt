@@ -12,6 +12,8 @@ mod images;
 mod layouts;
 #[cfg(test)]
 mod listings;
+#[cfg(test)]
+mod members;
 mod names;
 #[cfg(test)]
 mod signatures;

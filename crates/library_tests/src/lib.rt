@@ -2,6 +2,8 @@
 #![tactic(auto)]
 
 #[cfg(test)]
+mod cycles;
+#[cfg(test)]
 mod encodings;
 #[cfg(test)]
 mod executables;
