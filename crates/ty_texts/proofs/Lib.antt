@@ -1,0 +1,6 @@
+mod Walked
+mod Joined
+mod Repeats
+mod Plusless
+mod Ordered
+mod Full
