@@ -4,3 +4,6 @@ mod Repeats
 mod Plusless
 mod Ordered
 mod Full
+mod Ascii
+mod Resolved
+mod Again

@@ -34,7 +34,7 @@ module _ (P : ℕ → Type 0) where
   every-cond false xs ys h k = k
 
   module _ (of : IsOfNames P) where
-    every_escaped : (n : ℕ) → Every P (escaped n)
+    pub every_escaped : (n : ℕ) → Every P (escaped n)
     every_escaped n = (
       of.slash,
       (

@@ -1,6 +1,7 @@
 //! What texts are made of.
 ghost use Rattle.std.specs.Prelude.{◌≡◌, ◌==◌, ◌++◌, if◌then◌else◌, codes, length, OnOk};
 ghost use Rattle.std.specs.Fmt.{decimal};
+ghost use Rattle.ty_load.specs.Texts.{with_row_if};
 
 use itoa::Buffer;
 use num_core::{Bytes, Memory};
@@ -35,5 +36,21 @@ pub(crate) fn push_plus(text: &mut Bytes, start: usize) -> Result<(), Memory>
 pub(crate) fn push_comma(text: &mut Bytes, at: usize) -> Result<(), Memory>
     ensures { OnOk result (text.new ≡ (if at == 0 then text.old else text.old ++ codes ",")) }
 {
-    if at == 0 { Ok(()) } else { push(text, b",") }
+    if at == 0 {
+        Ok(())
+    } else {
+        push(text, b",")
+    }
+}
+
+/// Adds a row behind a text that another has too.
+pub(crate) fn push_row_if(text: &mut Bytes, again: bool, row: u32) -> Result<(), Memory>
+    ensures { OnOk result (text.new ≡ with_row_if again row text.old) }
+{
+    if again {
+        push(text, b"#")?;
+        push_number(text, row)
+    } else {
+        Ok(())
+    }
 }
