@@ -1,5 +1,5 @@
 -- Other rows with one text, looked for one after another.
-use Rattle.std.proofs.Common.{◌≡◌, ◌∙◌, ◌+◌, ◌-◌, ◌<◌, ◌≤◌, ◌||◌, ℕ, suc, Bool, true, false, List, refl, ap, sym, arith}
+use Rattle.std.proofs.Common.{◌≡◌, ◌∙◌, ◌+◌, ◌-◌, ◌<◌, ◌≤◌, ◌||◌, ℕ, suc, Bool, true, false, ap, sym, arith}
 use Rattle.std.specs.List.{list_any, range_with_len}
 
 module _ (test : ℕ → Bool) (begin count : ℕ) (whole : Bool) where

@@ -98,12 +98,7 @@ fn push_of_string(text: &mut Bytes, word: &[u8], units: &[u16]) -> Result<(), Me
 
 /// Adds the text of a node: its word, a space, and the text of its item. A string stands in quotes, and its units that
 /// aren't printed, quotes and backslashes are escaped.
-pub fn push_node(
-    names: &Names,
-    alloc: Global,
-    text: &mut Bytes,
-    node: &Node,
-) -> Result<(), Memory>
+pub fn push_node(names: &Names, alloc: Global, text: &mut Bytes, node: &Node) -> Result<(), Memory>
     ensures { OnOk result (text.new ≡ text.old ++ texts.node_text names.now node.now) }
 {
     match node {

@@ -36,11 +36,7 @@ pub(crate) fn push_plus(text: &mut Bytes, start: usize) -> Result<(), Memory>
 pub(crate) fn push_comma(text: &mut Bytes, at: usize) -> Result<(), Memory>
     ensures { OnOk result (text.new ≡ (if at == 0 then text.old else text.old ++ codes ",")) }
 {
-    if at == 0 {
-        Ok(())
-    } else {
-        push(text, b",")
-    }
+    if at == 0 { Ok(()) } else { push(text, b",") }
 }
 
 /// Adds a row behind a text that another has too.

@@ -1,7 +1,7 @@
-use Rattle.std.proofs.Common.{rules, ◌≡◌, ◌∙◌, ◌+◌, ◌-◌, ◌<◌, ◌==◌, ◌&&◌, ℕ, Bool, true, false, not, Some, List, sym, arith, nat_eq}
+use Rattle.std.proofs.Common.{rules, ◌≡◌, ◌∙◌, ◌+◌, ◌-◌, ◌<◌, ◌&&◌, ℕ, Bool, true, false, not, Some, List, sym, arith, nat_eq}
 use Rattle.std.specs.Str.{bytes_eq}
 use Rattle.md_tables.specs.declared.module.Table.{Table}
-use Rattle.ty_names.specs.Modules.{World, tables_at}
+use Rattle.ty_names.specs.Modules.{tables_at}
 use Rattle.ty_names.specs.Definitions.{methods_of, run_begin, run_end}
 use Rattle.ty_load.specs.Texts.{has_same, plain_method_text}
 use Rattle.ty_texts.proofs.Again.{decide_here, decide_on}

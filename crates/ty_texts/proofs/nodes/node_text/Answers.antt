@@ -1,4 +1,4 @@
-use Rattle.std.proofs.Common.{rules, ◌≡◌, ◌∙◌, Err, IsUtf8, sym, subst}
+use Rattle.std.proofs.Common.{rules, ◌≡◌, Err, IsUtf8, sym, subst}
 use Rattle.num_core.specs.declared.text.TextFault.TheVariants.{NotUtf8}
 use Rattle.ty_load.specs.Texts.{node_text}
 use Rattle.ty_texts.proofs.Ascii.{ascii_node, is_utf8}
