@@ -29,7 +29,8 @@ few tables h =
     let parameters : Bool = nat_lt (row_count tables 0x2A) (2 ^ 32) in
     let fields : Bool = nat_lt (row_count tables 0x04) (2 ^ 32) in
     let methods : Bool = nat_lt (row_count tables 0x06) (2 ^ 32) in
-    let last : (types && parameters && fields ≡ true) × (methods ≡ true) = both (types && parameters && fields) methods h in
+    let last : (types && parameters && fields ≡ true) × (methods ≡ true) =
+    both (types && parameters && fields) methods h in
     let third : (types && parameters ≡ true) × (fields ≡ true) = both (types && parameters) fields last.0 in
     let first : (types ≡ true) × (parameters ≡ true) = both types parameters third.0 in
     record {

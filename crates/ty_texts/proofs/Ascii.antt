@@ -1,5 +1,6 @@
 -- Each byte of a text is printed in ASCII, so a text is UTF-8.
-use Rattle.std.proofs.Common.{◌≡◌, ◌+◌, ◌/◌, ◌%◌, ◌<◌, ◌++◌, ◌∷◌, ◌&&◌, [], ℕ, zero, suc, Bool, true, false, not, cond, List}
+use Rattle.std.proofs.Common.{◌≡◌, ◌+◌, ◌/◌, ◌%◌, ◌<◌, ◌++◌, ◌∷◌, ◌&&◌, [], ℕ, zero, suc, Bool, true, false, not}
+use Rattle.std.proofs.Common.{cond, List}
 use Rattle.std.proofs.Common.{Option, Some, None, refl, sym, subst, arith, codes, map, nat_eq, nat_le, nat_lt, IsUtf8}
 use Rattle.std.proofs.lemmas.Str.{IsUtf8-from_ascii}
 use Rattle.std.proofs.lemmas.Bool.{and_parts, ltb-true}
@@ -27,7 +28,8 @@ use Rattle.ty_names.specs.TypeTexts.{assembly_text, definition_text, in_encloser
 use Rattle.ty_names.specs.TypeTexts.{own_text, text_in_module, types_around}
 use Rattle.ty_load.specs.Members.{method_sig_if}
 use Rattle.ty_load.specs.Primitives.{definition_of, name_of_primitive}
-use Rattle.ty_load.specs.Texts.{field_text, has_same, in_angles, is_plain_in_string, listed_texts, method_text, node_text}
+use Rattle.ty_load.specs.Texts.{field_text, has_same, in_angles, is_plain_in_string, listed_texts, method_text}
+use Rattle.ty_load.specs.Texts.{node_text}
 use Rattle.ty_load.specs.Texts.{plain_field_text, plain_method_text, quoted, rows_of_fields, rows_of_methods}
 use Rattle.ty_load.specs.Texts.{signature_text, text_step, type_text, type_texts, with_row_if}
 use Rattle.ty_load.specs.Walks.{arguments}
@@ -238,7 +240,8 @@ module _ (world : World) where
   ascii_with_row : (again : Bool) (row : ℕ) (text : List ℕ) → AsciiText text → AsciiText (with_row_if again row text)
   ascii_with_row again row text h =
       every-cond Ascii again (text ++ codes "#" ++ decimal row) text
-      (joined (text ++ codes "#") (decimal row) (joined text (codes "#") h (by_test (codes "#") refl)) (ascii_decimal row))
+      (joined (text ++ codes "#") (decimal row) (joined text (codes "#") h (by_test (codes "#") refl))
+      (ascii_decimal row))
       h
 
   ascii_method : (owner : Ty) (method : MethodId) (args : List Ty) → AsciiText (method_text world owner method args)
@@ -295,7 +298,8 @@ module _ (world : World) where
   ascii_node (Node.Method m) =
       joined (codes "Method ") (method_text world m.owner m.method m.args) (by_test (codes "Method ") refl)
       (ascii_method m.owner m.method m.args)
-  ascii_node (Node.TypeOf ty) = joined (codes "Type ") (type_text world ty) (by_test (codes "Type ") refl) (ascii_type ty)
+  ascii_node (Node.TypeOf ty) =
+      joined (codes "Type ") (type_text world ty) (by_test (codes "Type ") refl) (ascii_type ty)
   ascii_node (Node.Made ty) = joined (codes "Made ") (type_text world ty) (by_test (codes "Made ") refl) (ascii_type ty)
   ascii_node (Node.Slot s) =
       joined (codes "Slot ") (method_text world s.owner s.method s.args) (by_test (codes "Slot ") refl)

@@ -1,5 +1,6 @@
 -- Full names in a table: one more, those of a module, and all.
-use Rattle.std.proofs.Common.{◌≡◌, ◌∙◌, ◌+◌, ◌-◌, ◌<◌, ◌≤◌, ◌++◌, ◌∷◌, ◌&&◌, [], ℕ, suc, Bool, true, false, cond, List, Vec}
+use Rattle.std.proofs.Common.{◌≡◌, ◌∙◌, ◌+◌, ◌-◌, ◌<◌, ◌≤◌, ◌++◌, ◌∷◌, ◌&&◌, [], ℕ, suc, Bool, true, false, cond}
+use Rattle.std.proofs.Common.{List, Vec}
 use Rattle.std.proofs.Common.{Global, Option, Some, refl, ap, sym, arith, find, map, length, nat_eq, true≢false}
 use Rattle.std.proofs.lemmas.Bool.Decides.{Decides-like, same_from_decides}
 use Rattle.std.proofs.lemmas.Slice.Eq.{bytes_eq-Decides}
@@ -99,7 +100,8 @@ module _ (world : World) (number : ℕ) (before : List NameEntry) where
   pub record TellNamesBehind (left : ℕ) (entries : List NameEntry) : Type 0 where
     pub within : left ≤ type_count (tables_at world number)
     pub told : (name : List ℕ)
-        → type_in_entries entries name ≡ or_else (find (has_full_name world name) (ids_above left)) (type_in_entries before name)
+        → type_in_entries entries name ≡ or_else (find (has_full_name world name) (ids_above left))
+        (type_in_entries before name)
 
   pub tells_none : (left : ℕ) (entries : List NameEntry) → left ≡ type_count (tables_at world number)
       → entries ≡ before → TellNamesBehind left entries

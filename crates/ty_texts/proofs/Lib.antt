@@ -7,3 +7,4 @@ mod Full
 mod Ascii
 mod Resolved
 mod Again
+mod Fronts

@@ -1,7 +1,8 @@
 -- A module whose types stand behind those around them: none is nested in itself, and texts are told by the type around
 -- and the own name.
 use Rattle.std.proofs.Common.{◌≡◌, ◌∙◌, ◌+◌, ◌-◌, ◌<◌, ◌≤◌, ◌++◌, ◌∷◌, ◌&&◌, ◌||◌, [], ℕ, zero, suc, Bool, true, false}
-use Rattle.std.proofs.Common.{not, cond, find, map, length, List, Some, None, refl, ap, sym, subst, arith, nat_eq, nat_lt, eq-eqb, ne_eqb}
+use Rattle.std.proofs.Common.{not, cond, find, map, length, List, Some, None, refl, ap, sym, subst, arith, nat_eq}
+use Rattle.std.proofs.Common.{nat_lt, eq-eqb, ne_eqb}
 use Rattle.std.proofs.Common.{eqb-true, true≢false}
 use Rattle.std.proofs.lemmas.Bool.{eqb-false}
 use borrow.Author.Tests.{ltb-true}
@@ -282,13 +283,15 @@ module _ (world : World) (number : ℕ) (ordered : are_in_order world number ≡
       → tells_own keys (enclosing tables (before + 1)) (own_text tables (before + 1)) ≡ true → earlier before ≡ true
   is_earlier before keys h noted there =
       let row : ℕ = before + 1 in
-      let found : (x : ℕ) × (1 ≤ x) × (x < 1 + before) × (has_parts world number (enclosing tables row) (own_text tables row) x ≡ true) =
+      let found : (x : ℕ) × (1 ≤ x) × (x < 1 + before)
+      × (has_parts world number (enclosing tables row) (own_text tables row) x ≡ true) =
       any_in (has_parts world number (enclosing tables row) (own_text tables row)) 1 before
       (sym (noted.told (enclosing tables row) (own_text tables row)) ∙ there) in
       let x : ℕ = found.0 in
       let parts : (nat_eq (enclosing tables row) (enclosing tables x) ≡ true)
       × (bytes_eq (own_text tables row) (own_text tables x) ≡ true) =
-      both_true (nat_eq (enclosing tables row) (enclosing tables x)) (bytes_eq (own_text tables row) (own_text tables x))
+      both_true (nat_eq (enclosing tables row) (enclosing tables x))
+      (bytes_eq (own_text tables row) (own_text tables x))
       found.3 in
       let high : row ≤ size = omega (arith, h) in
       let low : 1 ≤ row = omega arith in
@@ -348,10 +351,12 @@ module _ (world : World) (number : ℕ) (ordered : are_in_order world number ≡
   filled : (row : ℕ) → 1 ≤ row → row ≤ size → text_in_module tables row ≡ text_in_module tables 0 → ⊥
   filled row low high same =
       true≢false
-      (sym (ap is_filled (text_parts row low high) ∙ nested_filled tables row (text_in_module tables (enclosing tables row)))
+      (sym (ap is_filled (text_parts row low high)
+      ∙ nested_filled tables row (text_in_module tables (enclosing tables row)))
       ∙ ap is_filled (same ∙ no_text))
 
-  still_apart : (before : ℕ) → before < size → AreApart world number (before + 1) → IsNew before → AreApart world number (before + 1 + 1)
+  still_apart : (before : ℕ) → before < size → AreApart world number (before + 1) → IsNew before
+      → AreApart world number (before + 1 + 1)
   still_apart before h apart new x y high_x high_y same =
       by (nat_eq x (before + 1)) (nat_eq y (before + 1)) refl refl
     where

@@ -189,7 +189,8 @@ filled_type_units (unit ∷ rest) =
     let all : List ℕ = unit ∷ rest in
     let named : is_filled (name_units_text all) ≡ true =
     filled-cond (nat_eq unit 0x3C) (unit ∷ behind_angle rest) (units_text all) refl
-    (filled_front (unit_text unit) (units_text rest) (filled-cond (is_plain unit) (unit ∷ []) (escaped unit) refl refl)) in
+    (filled_front (unit_text unit) (units_text rest)
+    (filled-cond (is_plain unit) (unit ∷ []) (escaped unit) refl refl)) in
     filled-cond (nat_eq (length all) 0) (escaped 0)
     (cond (is_dot (slice_get all (length all - 1))) (name_units_text (take (length all - 1) all) ++ escaped 0x2E)
     (name_units_text all))

@@ -1,5 +1,6 @@
 -- The first type whose text an earlier one has too, found row by row.
-use Rattle.std.proofs.Common.{◌≡◌, ◌∙◌, ◌+◌, ◌-◌, ◌<◌, ◌≤◌, ◌++◌, ◌∷◌, ◌&&◌, ◌||◌, [], ℕ, zero, suc, Bool, true, false, not}
+use Rattle.std.proofs.Common.{◌≡◌, ◌∙◌, ◌+◌, ◌-◌, ◌<◌, ◌≤◌, ◌++◌, ◌∷◌, ◌&&◌, ◌||◌, [], ℕ, zero, suc, Bool, true}
+use Rattle.std.proofs.Common.{false, not}
 use Rattle.std.proofs.Common.{cond, List, Vec, Global, Option, Some, None, refl, ap, sym, arith, find, map, length}
 use Rattle.std.proofs.Common.{is_some, nat_eq, nat_lt, eq-eqb, true≢false}
 use Rattle.std.proofs.lemmas.Bool.{lt-ltb}
@@ -256,7 +257,8 @@ module _ (world : World) (number : ℕ) where
       ap not (is_repeated before keys looked.told) ∙ sym is ∙ old in
       let here : test before ≡ true = not_false (test before) there in
       sym (looked.rest ∙ next_row before h
-      ∙ ap (λ b. cond b (Some (id_of number (before + 1))) (find (has_earlier_text world) (ids_behind (before + 1)))) here)
+      ∙ ap (λ b. cond b (Some (id_of number (before + 1)))
+      (find (has_earlier_text world) (ids_behind (before + 1)))) here)
 
   pub looks_at_one_more : (before next : ℕ) (keys more : List (Vec ℕ Global)) (fresh : Bool)
       → before < type_count (tables_at world number) → next ≡ before + 1 → AreLookedAt before keys
@@ -275,7 +277,8 @@ module _ (world : World) (number : ℕ) where
             ∙ at_end (is_text_of text) before next on;
         rest =
             looked.rest ∙ next_row before h
-            ∙ ap (λ b. cond b (Some (id_of number (before + 1))) (find (has_earlier_text world) (ids_behind (before + 1))))
+            ∙ ap (λ b. cond b (Some (id_of number (before + 1)))
+            (find (has_earlier_text world) (ids_behind (before + 1))))
             gone
             ∙ ap (λ n. find (has_earlier_text world) (ids_behind n)) (sym on);
       }

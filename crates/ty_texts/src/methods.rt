@@ -1,11 +1,12 @@
 //! The texts of methods.
-ghost use Rattle.std.specs.Prelude.{◌≡◌, ◌++◌, ◌==◌, ◌&&◌, Some, not, IfOk, OnOk};
+ghost use Rattle.std.specs.Prelude.{◌≡◌, ◌++◌, ◌==◌, ◌&&◌, ℕ, List, Some, codes, false, not, IfOk, OnOk};
 ghost use Rattle.std.specs.Str.{bytes_eq};
 ghost use Rattle.md_sigs.specs.Signatures.{signature};
 ghost use Rattle.ty_load.specs.Members.{method_sig_if};
 ghost use Rattle.ty_load.specs.Texts as texts;
 ghost use Rattle.ty_load.specs.Walks.{arguments};
-ghost use Rattle.ty_names.specs.Definitions.{method_blob, methods_of};
+ghost use Rattle.ty_names.specs.Definitions.{method_blob, method_name as method_name_in, methods_of};
+ghost use Rattle.ty_names.specs.Escapes.{name_text};
 ghost use Rattle.ty_names.specs.Modules.{tables_at};
 
 use crate::put::{push, push_row_if};
@@ -61,6 +62,41 @@ fn push_signature(
     }
 }
 
+/// Adds the type and the name of a method.
+fn push_named(
+    names: &Names,
+    alloc: Global,
+    text: &mut Bytes,
+    owner: &Ty,
+    method: MethodId,
+) -> Result<(), Memory>
+    ensures { OnOk result (text.new ≡ text.old ++ (texts.type_text names.now owner.now ++ codes "::"
+        ++ name_text (method_name_in (tables_at names.now method.module) method.row))) }
+{
+    push_type(names, alloc, text, owner)?;
+    push(text, b"::")?;
+    let name = method_name(names.tables(method.module), method.row);
+    push_name(alloc, text, name)
+}
+
+/// Adds what stands behind the type and the name of a method: its arguments, parameters and result.
+fn push_behind(
+    names: &Names,
+    alloc: Global,
+    text: &mut Bytes,
+    owner: &Ty,
+    id: TypeId,
+    method: MethodId,
+    args: &List<Ty>,
+) -> Result<(), Memory>
+    ensures { OnOk result (text.new ≡ text.old ++ (texts.in_angles (texts.type_texts names.now args.now)
+        ++ texts.signature_text names.now (arguments owner.now) args.now (method_sig_if names.now id
+        (signature method.module (method_blob (tables_at names.now method.module) method.row))))) }
+{
+    push_arguments(names, alloc, text, args.as_slice())?;
+    push_signature(names, alloc, text, owner, id, method, args)
+}
+
 /// Adds the text of a method of a type whose definition is known, without a row behind it.
 fn push_plain_method(
     names: &Names,
@@ -74,12 +110,37 @@ fn push_plain_method(
     ensures { OnOk result (text.new ≡ text.old
         ++ texts.plain_method_text names.now owner.now (Some id) method.module method.row args.now) }
 {
-    push_type(names, alloc, text, owner)?;
-    push(text, b"::")?;
-    let name = method_name(names.tables(method.module), method.row);
-    push_name(alloc, text, name)?;
-    push_arguments(names, alloc, text, args.as_slice())?;
-    push_signature(names, alloc, text, owner, id, method, args)
+    push_named(names, alloc, text, owner, method)?;
+    push_behind(names, alloc, text, owner, id, method, args)
+}
+
+/// Whether a text begins with another, so that it may be that with more behind.
+fn begins_with(text: &[u8], front: &[u8]) -> bool
+    ensures { (rest : List ℕ) → result ≡ false → bytes_eq (front.now ++ rest) text.now ≡ false }
+{
+    text.starts_with(front)
+}
+
+/// Whether a method has this text. Its signature is read only where the text begins with its type and its name.
+fn has_plain_text(
+    names: &Names,
+    alloc: Global,
+    owner: &Ty,
+    id: TypeId,
+    method: MethodId,
+    args: &List<Ty>,
+    own: &[u8],
+) -> Result<bool, Memory>
+    ensures { IfOk result (λ has. has ≡ bytes_eq
+        (texts.plain_method_text names.now owner.now (Some id) method.module method.row args.now) own.now) }
+{
+    let mut text = List::new(alloc);
+    push_named(names, alloc, &mut text, owner, method)?;
+    if !begins_with(own, text.as_slice()) {
+        return Ok(false);
+    }
+    push_behind(names, alloc, &mut text, owner, id, method, args)?;
+    Ok(text.as_slice() == own)
 }
 
 /// Whether a method is another than that of a row, and has this text.
@@ -97,11 +158,10 @@ fn has_text(
         (texts.plain_method_text names.now owner.now (Some id) method.module method.row args.now) own.now)) }
 {
     if method.row == row {
-        return Ok(false);
+        Ok(false)
+    } else {
+        has_plain_text(names, alloc, owner, id, method, args, own)
     }
-    let mut text = List::new(alloc);
-    push_plain_method(names, alloc, &mut text, owner, id, method, args)?;
-    Ok(text.as_slice() == own)
 }
 
 /// Whether another method of a type has the text of one.

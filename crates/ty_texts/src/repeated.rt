@@ -144,8 +144,8 @@ fn note_own(told: &mut IndexSet<(u32, Vec<u8>)>, key: (u32, Vec<u8>)) -> Result<
     Ok(fresh)
 }
 
-/// The first type of a module in order whose text an earlier one has too. Up to it no two types have one text, so a text
-/// is told by the type around and the own name.
+/// The first type of a module in order whose text an earlier one has too. Up to it no two types have one text, so a
+/// text is told by the type around and the own name.
 fn repeated_by_names(names: &Names, alloc: Global, module: u32) -> Result<Option<TypeId>, Memory>
     requires { are_in_order_in names.now «module» ≡ true }
     ensures { IfOk result (λ id. id ≡ find (has_earlier_text names.now) (ids_of names.now «module»)) }

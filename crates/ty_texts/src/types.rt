@@ -9,7 +9,7 @@ use std::alloc::Global;
 use ty_load::{Names, primitive_name};
 use ty_terms::Ty;
 
-/// Adds the text of a type: that of its definition with its arguments in angles, `[]` behind the element of a vector and
+/// Adds the text of a type: that of its definition with its arguments in angles, `[]` behind the element of a vector,
 /// `&` behind the target of a managed pointer, and a variable by its number.
 #[cycle(text)]
 pub fn push_type(names: &Names, alloc: Global, text: &mut Bytes, ty: &Ty) -> Result<(), Memory>

@@ -1,4 +1,5 @@
-use Rattle.std.proofs.Common.{rules, ◌≡◌, ◌∙◌, ◌+◌, ◌-◌, ◌<◌, ◌&&◌, ℕ, Bool, true, false, not, Some, List, sym, arith, nat_eq}
+use Rattle.std.proofs.Common.{rules, ◌≡◌, ◌∙◌, ◌+◌, ◌-◌, ◌<◌, ◌&&◌, ℕ, Bool, true, false, not, Some, List, sym, arith}
+use Rattle.std.proofs.Common.{nat_eq}
 use Rattle.std.specs.Str.{bytes_eq}
 use Rattle.md_tables.specs.declared.module.Table.{Table}
 use Rattle.ty_names.specs.Modules.{tables_at}
@@ -21,7 +22,8 @@ returns-then-branch c =
     c.in_ok-has_text.ensures
     ∙ (λ i. not (nat_eq (c.run_begin-begin.ensures i + c.loop-k.k) c.args.row)
     && bytes_eq (text (c.run_begin-begin.ensures i + c.loop-k.k)) (c.requires i)) in
-    decide_here test begin count (has_same text (fields_of tables c.args.id.row) c.args.row) c.loop-k.k there (sym is ∙ found) c.loop-k.invariant
+    decide_here test begin count (has_same text (fields_of tables c.args.id.row) c.args.row)
+    c.loop-k.k there (sym is ∙ found) c.loop-k.invariant
 
 pub loop-k-preserved : goal.loop-k-preserved
 loop-k-preserved c =
