@@ -21,7 +21,7 @@ fn read(alloc: Global, bytes: &[u8]) -> Option<Module> {
 }
 
 /// The world of the program `p` and the core.
-fn world(alloc: Global) -> Result<Names, Fail> {
+pub(crate) fn world(alloc: Global) -> Result<Names, Fail> {
     let mut modules = List::new(alloc);
     modules
         .push(read(alloc, IMAGE).ok_or("a module")?)
