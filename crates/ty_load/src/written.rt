@@ -132,7 +132,8 @@ pub(crate) fn all_resolved(
     module: u32,
     types: &[Ty],
 ) -> Result<Option<List<Ty>>, Memory>
-    ensures { IfOk result (λ found. found ≡ definitions.all_types (map (definitions.resolved names.now «module») types.now)) }
+    ensures { IfOk result (λ found. found ≡
+        definitions.all_types (map (definitions.resolved names.now «module») types.now)) }
 {
     let mut done = List::new(alloc);
     for ty in types {
