@@ -1,7 +1,8 @@
 //! The core module: how many rows its tables have, and its bodies, which are read as those of any other assembly.
-use core_lib::{RuntimeCall, core_module, runtime_call};
+use core_lib::{RuntimeCall, core_image, core_module, runtime_call};
 use il_code::{reached, read_body};
-use md_tables::{Module, Table};
+use md_tables::{Module, Table, read_tables};
+use pe_image::open_image;
 use std::alloc::Global;
 use std::test::Fail;
 
@@ -50,6 +51,23 @@ fn whole_bodies(alloc: Global, table: &Table) -> u32 {
 #[test]
 fn rows_of_the_core(rt: HostRuntime) -> Result<(), Fail> {
     let core = core_module(rt.alloc())?;
+    assert!(rt; rows(rt.alloc(), &core)?.as_str() == ROWS);
+    Ok(())
+}
+
+/// The module in the bytes.
+fn read(alloc: Global, bytes: &[u8]) -> Option<Module> {
+    if bytes.len() > 0x10_0000 {
+        return None;
+    }
+    let image = open_image(bytes).ok()?;
+    read_tables(alloc, &image).ok()
+}
+
+#[test]
+fn image_of_the_core(rt: HostRuntime) -> Result<(), Fail> {
+    let image = core_image(rt.alloc())?;
+    let core = read(rt.alloc(), image.as_slice()).ok_or("a module")?;
     assert!(rt; rows(rt.alloc(), &core)?.as_str() == ROWS);
     Ok(())
 }

@@ -20,6 +20,8 @@ mod signatures;
 #[cfg(test)]
 mod texts;
 #[cfg(test)]
+mod told;
+#[cfg(test)]
 mod types;
 #[cfg(test)]
 mod world;

@@ -10,5 +10,5 @@ mod runtime;
 mod tables;
 
 pub use laws::{mnemonics_of_the_standard, names_are_found};
-pub use module::{core_module, runtime_call};
+pub use module::{core_image, core_module, runtime_call};
 pub use runtime::RuntimeCall;

@@ -2,6 +2,8 @@ ghost use Rattle.std.specs.Prelude.{◌≡◌, ◌==◌, find, IfOk};
 ghost use Rattle.std.specs.Option.{option_map};
 ghost use Rattle.core_lib.specs.Classes.{classes as all};
 ghost use Rattle.core_lib.specs.Rows.{core as the_core, tables_of, table as table_of, runtime_calls as calls};
+ghost use Rattle.md_write.specs.Agreeing.{ReadsBack};
+ghost use Rattle.md_write.specs.Written.{image_of};
 
 use crate::held;
 use crate::making::{
@@ -10,7 +12,8 @@ use crate::making::{
 };
 use crate::runtime::RuntimeCall;
 use md_tables::{Module, Table, TableRow};
-use num_core::{List, Memory};
+use md_write::write_image;
+use num_core::{Bytes, List, Memory};
 use std::alloc::Global;
 
 /// The table of a number with these rows.
@@ -61,6 +64,19 @@ pub fn core_module(alloc: Global) -> Result<Module, Memory>
     let user = List::from_slice(alloc, held::user())?;
     let tables = tables(alloc)?;
     Ok(Module::new(0, user, tables))
+}
+
+/// The image of the core module, in a PE file (ECMA-335 II.25). The image opens, and the module that is read from it
+/// agrees with the core.
+pub fn core_image(alloc: Global) -> Result<Bytes, Memory>
+    ensures written { IfOk result (λ image. image ≡ image_of the_core.entry the_core.user the_core.tables) }
+    ensures reads_back { IfOk result (λ image. ReadsBack image the_core) }
+{
+    let core = core_module(alloc)?;
+    match write_image(alloc, &core) {
+        Ok(image) => Ok(image),
+        Err(_) => Err(Memory),
+    }
 }
 
 /// The call of the runtime that the method of a row of the core is; none where it is no such call, or there is no such

@@ -18,6 +18,8 @@ pub record AreCounts (tables : List Table) (counts : List ℕ) : Type 0 where
   pub count : length counts ≡ type_count tables
   pub each : (k : ℕ) → k < type_count tables → slice_index counts k ≡ generic_count tables 0x02 (k + 1)
 
--- the types of a module and their parameters have numbers of 32 bits
+-- the types of a module, their parameters, their fields and their methods have numbers of 32 bits
 abbrev pub has_numbers : List Table → Bool
-has_numbers tables = nat_lt (type_count tables) (2 ^ 32) && nat_lt (row_count tables 0x2A) (2 ^ 32)
+has_numbers tables =
+    nat_lt (type_count tables) (2 ^ 32) && nat_lt (row_count tables 0x2A) (2 ^ 32)
+    && nat_lt (row_count tables 0x04) (2 ^ 32) && nat_lt (row_count tables 0x06) (2 ^ 32)

@@ -3,7 +3,7 @@ ghost use Rattle.std.specs.Prelude.{◌≡◌, ◌<◌, ◌^◌, ℕ, length, ta
 ghost use Rattle.std.specs.Option.{option_map};
 ghost use Rattle.std.specs.Str.{bytes_eq};
 ghost use Rattle.ty_names.specs.Definitions.{enclosing as enclosing_in, generic_count, type_count as type_count_in};
-ghost use Rattle.ty_names.specs.Modules.{core_of, tables_at as tables_in};
+ghost use Rattle.ty_names.specs.Modules.{core_of, row_count as row_count_in, tables_at as tables_in};
 ghost use Rattle.ty_load.specs.Counting.{has_numbers as has_numbers_in};
 ghost use Rattle.ty_load.specs.Implements.{implemented};
 ghost use Rattle.ty_load.specs.Named.{AreTypeTables, are_numbered as are_numbered_in};
@@ -39,14 +39,17 @@ impl Model for Names {
     ghost invariant = { λ names. AreNames names.modules names.types.items names.found.entries };
 }
 
-/// Whether the types of a module and their parameters are few enough for numbers of 32 bits.
+/// Whether the types of a module, their parameters, fields and methods are few enough for numbers of 32 bits.
 fn has_numbers(tables: &[Table]) -> bool
     ensures { result ≡ has_numbers_in tables.now }
 {
-    row_count(tables, 0x02) < 0x1_0000_0000 && row_count(tables, 0x2A) < 0x1_0000_0000
+    row_count(tables, 0x02) < 0x1_0000_0000
+        && row_count(tables, 0x2A) < 0x1_0000_0000
+        && row_count(tables, 0x04) < 0x1_0000_0000
+        && row_count(tables, 0x06) < 0x1_0000_0000
 }
 
-/// Whether modules, their types and the parameters of these are few enough for numbers of 32 bits.
+/// Whether modules, their types, and the parameters, fields and methods of these are few enough for numbers of 32 bits.
 pub fn are_numbered(modules: &[Module]) -> bool
     ensures { result ≡ are_numbered_in modules.now }
 {
@@ -157,6 +160,20 @@ impl Names {
         ensures { result ≡ type_count_in (tables_in self.now «module») }
     {
         row_count(tables_at(self.modules.as_slice(), module as usize), 0x02) as u32
+    }
+
+    /// How many fields the types of a module have.
+    pub fn field_count(&self, module: u32) -> u32
+        ensures { result ≡ row_count_in (tables_in self.now «module») 0x04 }
+    {
+        row_count(tables_at(self.modules.as_slice(), module as usize), 0x04) as u32
+    }
+
+    /// How many methods the types of a module have.
+    pub fn method_count(&self, module: u32) -> u32
+        ensures { result ≡ row_count_in (tables_in self.now «module») 0x06 }
+    {
+        row_count(tables_at(self.modules.as_slice(), module as usize), 0x06) as u32
     }
 
     /// The tables of the module of a number, counted from 0.

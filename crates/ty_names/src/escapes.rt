@@ -30,8 +30,8 @@ fn hex_digit(n: u16) -> u8
     }
 }
 
-/// Adds `\u` and the four digits of a unit.
-fn push_escaped(text: &mut Bytes, unit: u16) -> Result<(), Memory>
+/// Adds `\u` and the four upper-case hexadecimal digits of a unit.
+pub fn push_escaped(text: &mut Bytes, unit: u16) -> Result<(), Memory>
     ensures { OnOk result (text.new ≡ text.old ++ escaped unit) }
 {
     push(

@@ -11,5 +11,5 @@ pub use definitions::{
     field_blob, field_flags, field_name, method_blob, method_flags, method_name, type_extends,
     type_flags, type_name, type_namespace,
 };
-pub use escapes::{push_name, push_qualified, push_type_name};
+pub use escapes::{push_escaped, push_name, push_qualified, push_type_name};
 pub use nesting::enclosers;

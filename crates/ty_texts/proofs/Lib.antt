@@ -1,0 +1,10 @@
+mod Walked
+mod Joined
+mod Repeats
+mod Plusless
+mod Ordered
+mod Full
+mod Ascii
+mod Resolved
+mod Again
+mod Fronts
