@@ -1,0 +1,34 @@
+//! The simulation of a program at the word level by the machine that holds its code, operation by operation. Each
+//! function does nothing, and ensures its laws of all placings.
+ghost use Rattle.rv_words.specs.Groups.{Branching, Computing, Jumping, Naming, Raising, Refusing};
+ghost use Rattle.rv_words.specs.Placing.{IsPlacing, Placing};
+
+/// Constants and addresses.
+pub fn naming()
+    ensures naming { (placing : Placing) → IsPlacing placing → Naming placing }
+{}
+
+/// What is computed of values, and never refused.
+pub fn computing()
+    ensures computing { (placing : Placing) → IsPlacing placing → Computing placing }
+{}
+
+/// Jumps.
+pub fn jumping()
+    ensures jumping { (placing : Placing) → IsPlacing placing → Jumping placing }
+{}
+
+/// Branches.
+pub fn branching()
+    ensures branching { (placing : Placing) → IsPlacing placing → Branching placing }
+{}
+
+/// Objects that are raised, where no body has clauses.
+pub fn raising()
+    ensures raising { (placing : Placing) → IsPlacing placing → Raising placing }
+{}
+
+/// What is computed of values and refused where it is out of range, and divisions.
+pub fn refusing()
+    ensures refusing { (placing : Placing) → IsPlacing placing → Refusing placing }
+{}
