@@ -21,6 +21,7 @@ pub mod Branches
 pub mod Targets
 pub mod Sites
 pub mod Lines
+pub mod Bytes
 pub mod Reading
 pub mod Operands
 pub mod Told
@@ -34,3 +35,5 @@ pub mod Along
 pub mod ComputingLaws
 pub mod RaiseLaws
 pub mod RefusingLaws
+pub mod MoveLaws
+pub mod SearchLaws

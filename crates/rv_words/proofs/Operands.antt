@@ -186,7 +186,7 @@ past_operand program begin body far_at k other slot n rest m at s free h h' =
 pub free_28 : IsFree 28
 free_28 = (λ e. omega (arith, e), λ k h e. omega (arith, h, e))
 
-free_5 : IsFree 5
+pub free_5 : IsFree 5
 free_5 = (λ e. omega (arith, e), λ k h e. omega (arith, e))
 
 free_6 : IsFree 6

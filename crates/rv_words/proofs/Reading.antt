@@ -7,10 +7,12 @@ use Rattle.std.specs.Option.{option_and_then, option_map}
 use Rattle.std.proofs.lemmas.Bool.{leb-true}
 use Rattle.std.proofs.lemmas.Bool.Decides.{nat_tests}
 use Rattle.std.proofs.lemmas.List.{append-nil}
-use Rattle.byteorder.specs.Endian.{little_bytes, little_number}
+use Rattle.std.specs.Int.{bytes_low_first}
+use Rattle.byteorder.specs.Endian.{little_bytes, little_from, little_number}
 use Rattle.byteorder.specs.Numbers.{length-bytes_low_first, little_from-lt, little_number-reads_back}
 use Rattle.rv_step.specs.Machine.{MachineState, register}
-use Rattle.rv_step.specs.Memory.{MayRead, byte_in}
+use Rattle.rv_step.specs.Memory.{Bytes, MayRead, byte_in}
+use Rattle.rv_step.proofs.Addresses.{at_each, read_bytes, readable}
 use Rattle.lir_core.specs.Calls.{lowest}
 use Rattle.lir_core.specs.Check.{lies_in_frame}
 use Rattle.lir_core.specs.Memory.{Byte, FlatMemory, bytes_in, cells_from, number_in}
@@ -28,7 +30,8 @@ use Rattle.rv_words.specs.Words.{Held, beyond, bytes_from, cell_of, held_in, mem
 use Rattle.rv_words.specs.Words.{word_by_home}
 use Rattle.rv_words.specs.Words.{words}
 use Rattle.rv_words.proofs.Homes.{home_bound, home_variable, home_word}
-use Rattle.rv_words.proofs.Kept.{own_byte}
+use Rattle.rv_words.proofs.Bytes.{number_back}
+use Rattle.rv_words.proofs.Kept.{own_byte, word_read}
 use Rattle.rv_words.proofs.Owning.{IsFirst, IsOneOf}
 use Rattle.rv_words.proofs.Registers.{register_fits}
 use Rattle.rv_words.proofs.Room.{HasRoom, below_all, in_data, may_read, room_of}
@@ -67,67 +70,6 @@ word_told memory p w n small told is =
     ap Some (sym back) ∙ ap (option_map (little_number 8)) (sym there') ∙ is in
     cc
 
--- cells behind the first
-same_behind : (memory : FlatMemory) (m : MachineState) (p count : ℕ)
-    → ((j : ℕ) → j < suc count → memory (p + j) ≡ cell_of (byte_in m.segments (p + j)))
-    → (j : ℕ) → j < count → memory (suc p + j) ≡ cell_of (byte_in m.segments (suc p + j))
-same_behind memory m p count same j less =
-    let e : suc p + j ≡ p + suc j = omega arith in
-    ap memory e ∙ same (suc j) (omega (arith, less)) ∙ ap (λ q. cell_of (byte_in m.segments q)) (sym e)
-
--- cells that are the machine's bytes
-flat_told : (memory : FlatMemory) (m : MachineState) (p count : ℕ) (bytes : List ℕ)
-    → ((j : ℕ) → j < count → memory (p + j) ≡ cell_of (byte_in m.segments (p + j)))
-    → bytes_in (cells_from memory p count) ≡ Some bytes → bytes_from m p count ≡ bytes
-flat_told memory m p zero bytes same told = cc
-flat_told memory m p (suc count) bytes same told =
-    by (λ others e. flat_told memory m (suc p) count others (same_behind memory m p count same) e)
-    (byte_in m.segments p) refl
-    whole
-  where
-    here : p + 0 ≡ p
-    here = omega arith
-
-    first : memory p ≡ cell_of (byte_in m.segments p)
-    first = ap memory (sym here) ∙ same 0 (omega arith) ∙ ap (λ q. cell_of (byte_in m.segments q)) here
-
-    whole : bytes_in (cell_of (byte_in m.segments p) ∷ cells_from memory (suc p) count) ≡ Some bytes
-    whole = ap (λ c. bytes_in (c ∷ cells_from memory (suc p) count)) (sym first) ∙ told
-
-    next : suc p ≡ p + 1
-    next = omega arith
-
-    Rest : Type 0
-    Rest = (others : List ℕ) → bytes_in (cells_from memory (suc p) count) ≡ Some others
-        → bytes_from m (suc p) count ≡ others
-
-    more : Rest → (b : ℕ) → byte_in m.segments p ≡ Some b → (o : Option (List ℕ))
-        → bytes_in (cells_from memory (suc p) count) ≡ o → option_map (λ others. b ∷ others) o ≡ Some bytes
-        → bytes_from m p (suc count) ≡ bytes
-    more tail b is None e told = cc
-    more tail b is (Some others) e told =
-        let rest : bytes_from m (suc p) count ≡ others = tail others e in
-        let all : b ∷ others ≡ bytes = cc in
-        ap (λ o. unwrap_or o 0 ∷ bytes_from m (p + 1) count) is
-        ∙ ap (λ q. b ∷ bytes_from m q count) (sym next) ∙ ap (λ xs. b ∷ xs) rest ∙ all
-
-    by : Rest → (o : Option ℕ) → byte_in m.segments p ≡ o
-        → bytes_in (cell_of o ∷ cells_from memory (suc p) count) ≡ Some bytes → bytes_from m p (suc count) ≡ bytes
-    by tail None is told = cc
-    by tail (Some b) is told = more tail b is (bytes_in (cells_from memory (suc p) count)) refl told
-
-flat_word : (memory : FlatMemory) (m : MachineState) (p n : ℕ)
-    → ((j : ℕ) → j < 8 → memory (p + j) ≡ cell_of (byte_in m.segments (p + j)))
-    → number_in memory p 8 ≡ Some n → word_at m p ≡ n
-flat_word memory m p n same is = by (bytes_in (cells_from memory p 8)) refl is
-  where
-    by : (o : Option (List ℕ)) → bytes_in (cells_from memory p 8) ≡ o → option_map (little_number 8) o ≡ Some n
-        → word_at m p ≡ n
-    by None e told = cc
-    by (Some bytes) e told =
-        let all : little_number 8 bytes ≡ n = cc in
-        ap (little_number 8) (flat_told memory m p 8 bytes same e) ∙ all
-
 -- ---- words that may be read are words
 
 small_index : (m : MachineState) (x count k : ℕ)
@@ -142,7 +84,7 @@ small_index m x (suc count) (suc k) small =
     (λ j less. let e : x + suc j ≡ (x + 1) + j = omega arith in
     subst (λ q. unwrap_or (byte_in m.segments q) 0 < 256) e (small (suc j) (omega (arith, less))))
 
-small_byte : (placing : Placing) (m : MachineState) (x : ℕ) → HasProgram placing m → placing.lowest_data ≤ x
+pub small_byte : (placing : Placing) (m : MachineState) (x : ℕ) → HasProgram placing m → placing.lowest_data ≤ x
     → x < placing.lowest_data + data_bytes placing → unwrap_or (byte_in m.segments x) 0 < 256
 small_byte placing m x has low high = by (byte_in m.segments x) refl
   where
@@ -202,30 +144,25 @@ lt_true x y h = grind (arith, nat_tests)
 lt_false : (x y : ℕ) → y ≤ x → nat_lt x y ≡ false
 lt_false x y h = grind (arith, nat_tests)
 
-pub slot_stands : (placing : Placing) (here : Here) (operation : LirOp) (begin : ℕ) (m : MachineState) (slot n : ℕ)
+-- The word of a slot, which stands there, and whose bytes are what the machine holds at the slot's place.
+pub record SlotWord (placing : Placing) (here : Here) (m : MachineState) (slot : ℕ) : Type 0 where
+  pub word : ℕ
+  pub stands : SlotStands m here.body.vars slot word
+  pub cells : (j : ℕ) → j < 8
+      → memory_in placing m (cond (is_variable here.body slot) (addresses + (here.frame.address + 128 + 8 * slot))
+      (here.frame.address + 128 + 8 * slot) + j)
+      ≡ Byte (slice_index (little_bytes 8 word) j)
+
+pub slot_word : (placing : Placing) (here : Here) (operation : LirOp) (begin : ℕ) (m : MachineState) (slot : ℕ)
     → IsPlacing placing → IsAt placing here operation begin m → Site placing here operation begin m
-    → word_in here slot ≡ Some n → SlotStands m here.body.vars slot n
-slot_stands placing here operation begin m slot n is at s told =
-    by (is_variable here.body slot) refl
-    (subst (λ b. number_in here.state.memory (cond b (addresses + a) a) 8 ≡ Some n) which found.1)
+    → lies_in_frame here.body.frame (word slot) ≡ true → SlotWord placing here m slot
+slot_word placing here operation begin m slot is at s lies = by_home (home here.body.vars slot) refl
   where
     a : ℕ
     a = here.frame.address + 128 + 8 * slot
 
-    found : (lies_in_frame here.body.frame (word slot) ≡ true)
-        × (number_in here.state.memory (cond (is_variable here.body (8 * slot / 8)) (addresses + a) a) 8 ≡ Some n)
-    found =
-        reading (lies_in_frame here.body.frame (word slot)) (is_variable here.body (8 * slot / 8)) a n here.state.memory
-        told
-
-    which : is_variable here.body (8 * slot / 8) ≡ is_variable here.body slot
-    which = let e : 8 * slot / 8 ≡ slot = omega arith in ap (is_variable here.body) e
-
     ends : 128 + 8 * slot + 8 ≤ here.body.frame
-    ends = leb-true (128 + 8 * slot + 8) here.body.frame found.0
-
-    fits_in : slot_place slot + 8 ≤ here.body.frame
-    fits_in = omega (arith, ends)
+    ends = leb-true (128 + 8 * slot + 8) here.body.frame lies
 
     close : slot_place slot < 65536
     close = let most : here.body.frame ≤ 65536 = here.body.frame_size.greatest in omega (arith, ends, most)
@@ -251,93 +188,135 @@ slot_stands placing here operation begin m slot n is at s told =
         room
         (omega (arith, same)) (omega (arith, same, ends))
 
-    word_is_small : word_at m (register m 2 + slot_place slot) < 2 ^ 64
-    word_is_small =
-        let inside = in_data placing here.frame.address here.body (register m 2 + slot_place slot) 8 is room
-        (omega (arith, same)) (omega (arith, same, ends)) in
-        word_small placing m (register m 2 + slot_place slot) at.stands.serves.memory inside.0 inside.1
+    in_it : (placing.lowest_data ≤ register m 2 + slot_place slot)
+        × (register m 2 + slot_place slot + 8 ≤ placing.lowest_data + data_bytes placing)
+    in_it =
+        in_data placing here.frame.address here.body (register m 2 + slot_place slot) 8 is room (omega (arith, same))
+        (omega (arith, same, ends))
+
+    small_word : word_at m (register m 2 + slot_place slot) < 2 ^ 64
+    small_word = word_small placing m (register m 2 + slot_place slot) at.stands.serves.memory in_it.0 in_it.1
 
     held : Held
     held = held_at s.i.here (register m 2) (homes_in m)
 
-    -- the word of the machine's variable
-    variable_is : (o : Option ℕ) → home here.body.vars slot ≡ o → variable_word m held slot ≡ n
-        → variable_word m held slot ≡ word_by_home o m held slot → SlotStands m here.body.vars slot n
-    variable_is (Some r) e is_n by_home =
-        let bound = home_bound here.body.vars slot r e in
-        let word : register m r ≡ n = sym (home_word m r bound.0 bound.2) ∙ sym by_home ∙ is_n in
-        let less : r < 26 = bound.2 in
-        record {
-          stands = subst (λ o. StandsIn o m slot n) (sym e) word;
-          small = subst (λ w. w < 2 ^ 64) word (register_fits r m (omega (arith, less)) at.stands.serves.registers);
-          fits = omega (arith, below);
-          near = close;
-        }
-    variable_is None e is_n by_home =
-        let word : word_at m (register m 2 + slot_place slot) ≡ n = sym by_home ∙ is_n in
-        record {
-          stands = subst (λ o. StandsIn o m slot n) (sym e) (may, word);
-          small = subst (λ w. w < 2 ^ 64) word word_is_small;
-          fits = omega (arith, below);
-          near = close;
-        }
+    -- bytes that stand there are bytes
+    all_small : (bytes : List ℕ) → length bytes ≡ 8 → Bytes m (register m 2 + slot_place slot) bytes → (k : ℕ)
+        → k < length bytes → slice_index bytes k < 256
+    all_small bytes size there k h =
+        let q : ℕ = register m 2 + slot_place slot in
+        let back : q + k - q ≡ k = omega arith in
+        let byte : byte_in m.segments (q + k) ≡ Some (slice_index bytes k) =
+        at_each m q bytes there (q + k) (omega arith) (omega (arith, h))
+        ∙ ap (λ n. Some (slice_index bytes n)) back in
+        let low : placing.lowest_data ≤ q = in_it.0 in
+        let high : q + 8 ≤ placing.lowest_data + data_bytes placing = in_it.1 in
+        subst (λ o. unwrap_or o 0 < 256) byte
+        (small_byte placing m (q + k) at.stands.serves.memory (omega (arith, low)) (omega (arith, high, h, size)))
 
-    small_by_home : (o : Option ℕ) → home here.body.vars slot ≡ o → word_by_home o m held slot < 2 ^ 64
-    small_by_home (Some r) e =
-        let bound = home_bound here.body.vars slot r e in
-        let less : r < 26 = bound.2 in
-        subst (λ w. w < 2 ^ 64) (sym (home_word m r bound.0 bound.2))
-        (register_fits r m (omega (arith, less)) at.stands.serves.registers)
-    small_by_home None e = word_is_small
-
-    own_home : variable_word m held slot ≡ word_by_home (home here.body.vars slot) m held slot
-    own_home = ap (λ b. word_by_home (home b.vars slot) m held slot) s.body_is
-
-    own_cell : is_variable here.body slot ≡ true → (j : ℕ) → j < 8
-        → memory_in placing m ((addresses + a) + j) ≡ Byte (slice_index (little_bytes 8 (variable_word m held slot)) j)
-    own_cell variable j less =
+    -- a byte of a variable
+    own_cell : is_variable here.body slot ≡ true → (w : ℕ) → variable_word m held slot ≡ w → (j : ℕ) → j < 8
+        → memory_in placing m (cond (is_variable here.body slot) (addresses + a) a + j)
+        ≡ Byte (slice_index (little_bytes 8 w) j)
+    own_cell variable w word_is j less =
         let x : ℕ = (addresses + a) + j in
         let place : x - addresses ≡ register m 2 + slot_place slot + j = omega (arith, a_is) in
         let variable' : is_variable s.i.here.body slot ≡ true =
         ap (λ b. is_variable b slot) s.body_is ∙ variable in
         let fits' : slot_place slot + 8 ≤ s.i.here.body.frame =
-        subst (λ b. slot_place slot + 8 ≤ b.frame) (sym s.body_is) fits_in in
-        ap (λ b. cond b (cell_of (byte_in m.segments x)) (beyond m (held_in placing m) (x - addresses)))
+        subst (λ b. slot_place slot + 8 ≤ b.frame) (sym s.body_is) (omega (arith, ends)) in
+        ap (λ b. memory_in placing m (cond b (addresses + a) a + j)) variable
+        ∙ ap (λ b. cond b (cell_of (byte_in m.segments x)) (beyond m (held_in placing m) (x - addresses)))
         (lt_false x addresses (omega arith))
         ∙ ap (beyond m (held_in placing m)) place
         ∙ ap (λ hs. beyond m hs (register m 2 + slot_place slot + j)) (held_is placing m here.frame here.below s.i)
         ∙ own_byte m s.i.here (register m 2) (homes_in m)
         (rest_of s.i.count placing m (held_at s.i.here (register m 2) (homes_in m))) slot j less variable' fits'
+        ∙ ap (λ w'. Byte (slice_index (little_bytes 8 w') j)) word_is
 
-    flat_cell : (j : ℕ) → j < 8 → memory_in placing m (a + j) ≡ cell_of (byte_in m.segments (a + j))
-    flat_cell j less =
-        ap (λ b. cond b (cell_of (byte_in m.segments (a + j))) (beyond m (held_in placing m) ((a + j) - addresses)))
-        (lt_true (a + j) addresses (omega (arith, a_is, below, less)))
+    -- a byte at the slot's address
+    flat_cell : is_variable here.body slot ≡ false → (j : ℕ) → j < 8
+        → memory_in placing m (cond (is_variable here.body slot) (addresses + a) a + j)
+        ≡ Byte (slice_index (little_bytes 8 (word_at m (register m 2 + slot_place slot))) j)
+    flat_cell other j less =
+        let q : ℕ = register m 2 + slot_place slot in
+        let found = readable (λ t. t.read) q 8 m.segments may in
+        let there : Bytes m q found.0 =
+        read_bytes (λ t. t.read) m q 8 found.0 at.stands.serves.memory.segments found.1 found.2 in
+        let sum : a + j ≡ q + j = omega (arith, a_is) in
+        let back : q + j - q ≡ j = omega arith in
+        let byte : byte_in m.segments (q + j) ≡ Some (slice_index found.0 j) =
+        at_each m q found.0 there (q + j) (omega arith) (omega (arith, less, found.2))
+        ∙ ap (λ k. Some (slice_index found.0 k)) back in
+        let back_again : little_bytes 8 (word_at m q) ≡ found.0 =
+        ap (little_bytes 8) (word_read m q found.0 found.2 there)
+        ∙ subst (λ k. bytes_low_first 0 k (little_from 0 k found.0) ≡ found.0) found.2
+        (number_back found.0 (all_small found.0 found.2 there)) in
+        ap (λ b. memory_in placing m (cond b (addresses + a) a + j)) other ∙ ap (memory_in placing m) sum
+        ∙ ap (λ b. cond b (cell_of (byte_in m.segments (q + j))) (beyond m (held_in placing m) ((q + j) - addresses)))
+        (lt_true (q + j) addresses (omega (arith, below, less)))
+        ∙ ap cell_of byte ∙ ap (λ bs. Byte (slice_index bs j)) (sym back_again)
 
-    flat_is : (o : Option ℕ) → home here.body.vars slot ≡ o → is_variable here.body slot ≡ false
-        → word_at m (register m 2 + slot_place slot) ≡ n → SlotStands m here.body.vars slot n
-    flat_is (Some r) e other word =
-        absurd (let no : true ≡ false = sym (home_variable here.body.vars slot r e) ∙ other in cc)
-    flat_is None e other word = record {
-      stands = subst (λ o. StandsIn o m slot n) (sym e) (may, word);
-      small = subst (λ w. w < 2 ^ 64) word word_is_small;
-      fits = omega (arith, below);
-      near = close;
+    own_home : variable_word m held slot ≡ word_by_home (home here.body.vars slot) m held slot
+    own_home = ap (λ b. word_by_home (home b.vars slot) m held slot) s.body_is
+
+    by_variable : (b : Bool) → is_variable here.body slot ≡ b → home here.body.vars slot ≡ None
+        → SlotWord placing here m slot
+    by_variable true e none = record {
+      word = word_at m (register m 2 + slot_place slot);
+      stands = record {
+        stands = subst (λ o. StandsIn o m slot (word_at m (register m 2 + slot_place slot))) (sym none) (may, refl);
+        small = small_word;
+        fits = omega (arith, below);
+        near = close;
+      };
+      cells = own_cell e (word_at m (register m 2 + slot_place slot))
+          (own_home ∙ ap (λ o. word_by_home o m held slot) none);
+    }
+    by_variable false e none = record {
+      word = word_at m (register m 2 + slot_place slot);
+      stands = record {
+        stands = subst (λ o. StandsIn o m slot (word_at m (register m 2 + slot_place slot))) (sym none) (may, refl);
+        small = small_word;
+        fits = omega (arith, below);
+        near = close;
+      };
+      cells = flat_cell e;
     }
 
-    by : (b : Bool) → is_variable here.body slot ≡ b
-        → number_in here.state.memory (cond b (addresses + a) a) 8 ≡ Some n → SlotStands m here.body.vars slot n
-    by true variable read =
-        let there : number_in (memory_in placing m) (addresses + a) 8 ≡ Some n =
-        same_number here.state.memory (memory_in placing m) (addresses + a) 8 n
-        (memory_told placing here.state m at.stands) read in
-        let small : variable_word m held slot < 2 ^ 64 =
-        subst (λ w. w < 2 ^ 64) (sym own_home) (small_by_home (home here.body.vars slot) refl) in
-        let word : variable_word m held slot ≡ n =
-        word_told (memory_in placing m) (addresses + a) (variable_word m held slot) n small (own_cell variable) there in
-        variable_is (home here.body.vars slot) refl word own_home
-    by false other read =
-        let there : number_in (memory_in placing m) a 8 ≡ Some n =
-        same_number here.state.memory (memory_in placing m) a 8 n (memory_told placing here.state m at.stands) read in
-        let word : word_at m a ≡ n = flat_word (memory_in placing m) m a n flat_cell there in
-        flat_is (home here.body.vars slot) refl other (ap (word_at m) (sym a_is) ∙ word)
+    by_home : (o : Option ℕ) → home here.body.vars slot ≡ o → SlotWord placing here m slot
+    by_home (Some r) e =
+        let bound = home_bound here.body.vars slot r e in
+        let less : r < 26 = bound.2 in
+        record {
+          word = register m r;
+          stands = record {
+            stands = subst (λ o. StandsIn o m slot (register m r)) (sym e) refl;
+            small = register_fits r m (omega (arith, less)) at.stands.serves.registers;
+            fits = omega (arith, below);
+            near = close;
+          };
+          cells = own_cell (home_variable here.body.vars slot r e) (register m r)
+              (own_home ∙ ap (λ o. word_by_home o m held slot) e ∙ home_word m r bound.0 bound.2);
+        }
+    by_home None e = by_variable (is_variable here.body slot) refl e
+
+-- What the program reads of a slot stands there.
+pub slot_stands : (placing : Placing) (here : Here) (operation : LirOp) (begin : ℕ) (m : MachineState) (slot n : ℕ)
+    → IsPlacing placing → IsAt placing here operation begin m → Site placing here operation begin m
+    → word_in here slot ≡ Some n → SlotStands m here.body.vars slot n
+slot_stands placing here operation begin m slot n is at s told =
+    let a : ℕ = here.frame.address + 128 + 8 * slot in
+    let found = reading (lies_in_frame here.body.frame (word slot)) (is_variable here.body (8 * slot / 8)) a n
+        here.state.memory told in
+    let index : 8 * slot / 8 ≡ slot = omega arith in
+    let p : ℕ = cond (is_variable here.body slot) (addresses + a) a in
+    let read : number_in here.state.memory p 8 ≡ Some n =
+    subst (λ k. number_in here.state.memory (cond (is_variable here.body k) (addresses + a) a) 8 ≡ Some n) index
+    found.1 in
+    let there : number_in (memory_in placing m) p 8 ≡ Some n =
+    same_number here.state.memory (memory_in placing m) p 8 n (memory_told placing here.state m at.stands) read in
+    let w : SlotWord placing here m slot = slot_word placing here operation begin m slot is at s found.0 in
+    let word_is : w.word ≡ n =
+    word_told (memory_in placing m) p w.word n w.stands.small w.cells there in
+    subst (SlotStands m here.body.vars slot) word_is w.stands

@@ -20,7 +20,7 @@ use Rattle.rv_words.proofs.Owning.{IsFirst, IsLater, IsOneOf, at_least, fixed_ot
 
 -- ---- frames between the heap and the stack's end
 
-stacked_end : (program : WordProgram) (address : ℕ) (frames : List Frame) → AreStacked program address frames
+pub stacked_end : (program : WordProgram) (address : ℕ) (frames : List Frame) → AreStacked program address frames
     → address ≤ program.stack_end
 stacked_end program address [] stacked = let e : address ≡ program.stack_end = stacked in omega (arith, e)
 stacked_end program address (frame ∷ frames) stacked =

@@ -1,5 +1,5 @@
 -- The laws of the simulation, an operation each, in groups.
-use Rattle.std.specs.Prelude.{◌≡◌, ℕ, List, ◌∷◌, ℤ, slice_get, Option, Some}
+use Rattle.std.specs.Prelude.{◌≡◌, ℕ, List, [], ◌∷◌, ℤ, slice_get, Option, Some}
 use Rattle.num_core.specs.Run.{Streams}
 use Rattle.num_core.specs.declared.fix.FixKind.{FixKind}
 use Rattle.num_core.specs.declared.kind.Kind.{Kind}
@@ -7,7 +7,8 @@ use Rattle.num_core.specs.declared.kind.Narrow.{Narrow}
 use Rattle.num_core.specs.declared.kind.ShiftOp.{ShiftOp}
 use Rattle.rv_step.specs.Machine.{MachineState}
 use Rattle.lir_core.specs.Slots.{Here}
-use Rattle.lir_core.specs.Step.{performs}
+use Rattle.lir_core.specs.State.{ASearch, WordState}
+use Rattle.lir_core.specs.Step.{performs, word_step}
 use Rattle.lir_core.specs.declared.op.Argument.{Argument}
 use Rattle.lir_core.specs.declared.op.BinaryOperation.{BinaryOperation}
 use Rattle.lir_core.specs.declared.op.Block.{Block}
@@ -20,8 +21,8 @@ use Rattle.lir_core.specs.declared.op.Place.{Place}
 use Rattle.lir_core.specs.declared.op.Test.{Test}
 use Rattle.lir_core.specs.declared.op.UnaryOperation.{UnaryOperation}
 use Rattle.rv_words.specs.Placing.{Placing, around_at}
-use Rattle.rv_words.specs.Stands.{AreBytes, Follows, FollowsInBody, Stands}
-use Rattle.rv_words.specs.Steps.{most_steps}
+use Rattle.rv_words.specs.Stands.{AreBytes, Follows, FollowsInBody, IsUnhandled, Stands}
+use Rattle.rv_words.specs.Steps.{in_last_line, most_steps}
 
 -- The innermost frame stands at an operation, and a machine where that does. The code of its body begins at an address.
 pub record IsAt (placing : Placing) (here : Here) (operation : LirOp) (begin : ℕ) (m : MachineState) : Type 0 where
@@ -112,3 +113,9 @@ pub record Raising (placing : Placing) : Type 0 where
   pub raise : (object : ℕ) → IsFollowedInBody placing (op.Raise object)
   pub rethrow : IsFollowedInBody placing op.Rethrow
   pub end_handler : IsFollowedInBody placing op.EndHandler
+
+-- a search that finds nothing, which ends the program with its line of error text
+pub record Searching (placing : Placing) : Type 0 where
+  pub nothing : (state : WordState) (m : MachineState) (streams : Streams) (object : ℕ)
+      → state.under_way ≡ ASearch object [] → IsUnhandled placing state m
+      → Follows placing in_last_line m streams (word_step placing.program state streams)

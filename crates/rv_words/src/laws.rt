@@ -1,11 +1,16 @@
 //! The simulation of a program at the word level by the machine that holds its code, operation by operation. Each
 //! function does nothing, and ensures its laws of all placings.
-ghost use Rattle.rv_words.specs.Groups.{Branching, Computing, Jumping, Naming, Raising, Refusing};
+ghost use Rattle.rv_words.specs.Groups.{Branching, Computing, Jumping, Moving, Naming, Raising, Refusing, Searching};
 ghost use Rattle.rv_words.specs.Placing.{IsPlacing, Placing};
 
 /// Constants and addresses.
 pub fn naming()
     ensures naming { (placing : Placing) → IsPlacing placing → Naming placing }
+{}
+
+/// Words that are moved from a slot to another.
+pub fn moving()
+    ensures moving { (placing : Placing) → IsPlacing placing → Moving placing }
 {}
 
 /// What is computed of values, and never refused.
@@ -31,4 +36,9 @@ pub fn raising()
 /// What is computed of values and refused where it is out of range, and divisions.
 pub fn refusing()
     ensures refusing { (placing : Placing) → IsPlacing placing → Refusing placing }
+{}
+
+/// A search that finds nothing.
+pub fn searching()
+    ensures searching { (placing : Placing) → IsPlacing placing → Searching placing }
 {}

@@ -4,4 +4,4 @@
 
 mod laws;
 
-pub use laws::{branching, computing, jumping, naming, raising, refusing};
+pub use laws::{branching, computing, jumping, moving, naming, raising, refusing, searching};
