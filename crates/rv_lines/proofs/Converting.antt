@@ -196,18 +196,18 @@ keeps_word r x p registers has h h' e fits =
 -- ---- what the words hold
 
 -- a narrow number is held as it is
-small_held : (n : ℕ) → n < 2 ^ 31 → low_bits 64 (held U4 (pos n)) ≡ n
+pub small_held : (n : ℕ) → n < 2 ^ 31 → low_bits 64 (held U4 (pos n)) ≡ n
 small_held n h =
     ap (low_bits 64) (int_wrap_fits w32 (pos n) (record { sfits = h })) ∙ low_small n (omega (arith, h))
 
-narrow_held : (w : Width) (a : ℤ) → FitsSigned w32 (int_wrap w a)
+pub narrow_held : (w : Width) (a : ℤ) → FitsSigned w32 (int_wrap w a)
     → low_bits 64 (int_wrap w a) ≡ low_bits 64 (held I4 (int_wrap w a))
 narrow_held w a fits = ap (low_bits 64) (sym (int_wrap_fits w32 (int_wrap w a) fits))
 
-left_8 : (a : ℤ) → FitsSigned w32 (int_wrap w8 a)
+pub left_8 : (a : ℤ) → FitsSigned w32 (int_wrap w8 a)
 left_8 a = fits_wider w8 w32 (int_wrap w8 a) (omega arith) (SFits-int_wrap w8 a)
 
-left_16 : (a : ℤ) → FitsSigned w32 (int_wrap w16 a)
+pub left_16 : (a : ℤ) → FitsSigned w32 (int_wrap w16 a)
 left_16 a = fits_wider w16 w32 (int_wrap w16 a) (omega arith) (SFits-int_wrap w16 a)
 
 -- the bits of a value, as many as its kind has

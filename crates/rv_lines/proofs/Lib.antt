@@ -10,3 +10,4 @@ pub mod Multiplying
 pub mod Narrowing
 pub mod Dividing
 pub mod Refusing
+pub mod Loading

@@ -2,18 +2,22 @@
 //! all values.
 ghost use Rattle.std.specs.Option.{option_map};
 ghost use Rattle.std.specs.Ordering.{int_eq};
-ghost use Rattle.std.specs.Prelude.{◌≡◌, ◌<◌, ℕ, ℤ, pos, true, false, if◌then◌else◌, List, slice_index, Some, None};
+ghost use Rattle.std.specs.Prelude.{◌≡◌, ◌<◌, ◌^◌, ℕ, ℤ, pos, true, false, if◌then◌else◌, List, slice_index, Some, None};
 ghost use Rattle.num_core.specs.Integers.{IsOfKind};
 ghost use Rattle.num_core.specs.Run.{Running, Streams};
 ghost use Rattle.num_core.specs.declared.kind.Kind.{Kind};
 ghost use Rattle.num_core.specs.declared.kind.Kind.TheVariants.{I8};
 ghost use Rattle.num_core.specs.declared.kind.Narrow.{Narrow};
 ghost use Rattle.num_core.specs.declared.kind.ShiftOp.{ShiftOp};
-ghost use Rattle.rv_step.specs.Machine.{MachineState, effect, register};
+ghost use Rattle.rv_step.specs.Machine.{MachineState, address, effect, register, stores as stores_bytes};
+ghost use Rattle.rv_step.specs.Memory.{MayRead, Number};
+ghost use Rattle.rv_step.specs.Segments.{AreSegments};
 ghost use Rattle.rv_code.specs.Code.{given};
+ghost use Rattle.lir_core.specs.Pieces.{bytes_of_type};
 ghost use Rattle.lir_core.specs.Step.{one_if};
 ghost use Rattle.lir_core.specs.Values.{changed, combined, combined_in_range, divided as part_of, holds_of};
-ghost use Rattle.lir_core.specs.Values.{is_least_by_minus_one, value_converted, value_in_range, value_shifted, word_of};
+ghost use Rattle.lir_core.specs.Values.{is_least_by_minus_one, value_converted, value_in_range, value_shifted};
+ghost use Rattle.lir_core.specs.Values.{widened, word_of};
 ghost use Rattle.lir_core.specs.declared.op.BinaryOperation.{BinaryOperation};
 ghost use Rattle.lir_core.specs.declared.op.CheckedOperation.{CheckedOperation};
 ghost use Rattle.lir_core.specs.declared.op.DivisionPart.{DivisionPart};
@@ -21,6 +25,7 @@ ghost use Rattle.lir_core.specs.declared.op.Test.{Test};
 ghost use Rattle.lir_core.specs.declared.op.UnaryOperation.{UnaryOperation};
 ghost use Rattle.rv_lines.specs.Computing.{changes, combines, combines_checked, compares, converts, converts_checked};
 ghost use Rattle.rv_lines.specs.Computing.{divides, shifts};
+ghost use Rattle.rv_lines.specs.Operands.{loads, stores};
 ghost use Rattle.rv_lines.specs.Leading.{AnswersOr, AreRegisters, IsKept, LeadsTo, Refuses};
 
 /// What the instructions that compute give of values in registers.
@@ -85,4 +90,18 @@ pub fn refusing_lines()
     ensures divided_by_zero { (part : DivisionPart) (kind : Kind) (r x y if_zero overflow : ℕ) (b : ℤ)
         (registers : List ℕ) → AreRegisters registers → IsOfKind kind b → slice_index registers y ≡ word_of b →
         int_eq b (pos 0) ≡ true → Refuses (divides part kind r x y if_zero overflow) registers if_zero }
+{}
+
+/// What the instructions give that read a number of a type, and what those write that write one.
+pub fn moving_instructions()
+    // the word of the value that the number is widened to
+    ensures loaded { (to : Narrow) (m : MachineState) (streams : Streams) (rd base : ℕ) (offset : ℤ) (n : ℕ) →
+        AreSegments m.segments → n < 256 ^ bytes_of_type to →
+        MayRead m (address m base offset) (bytes_of_type to) →
+        Number m (address m base offset) (bytes_of_type to) n →
+        effect (loads to rd base offset) m streams ≡ Running (given rd (word_of (widened to n)) m) streams }
+    // the lowest bytes of a register, as many as the type has
+    ensures stored { (to : Narrow) (m : MachineState) (streams : Streams) (rs base : ℕ) (offset : ℤ) →
+        effect (stores to rs base offset) m streams
+        ≡ stores_bytes m (bytes_of_type to) (address m base offset) (register m rs) streams }
 {}
