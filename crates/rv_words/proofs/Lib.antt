@@ -37,3 +37,5 @@ pub mod RaiseLaws
 pub mod RefusingLaws
 pub mod MoveLaws
 pub mod SearchLaws
+pub mod Flat
+pub mod LoadLaws

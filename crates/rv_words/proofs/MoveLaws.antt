@@ -125,7 +125,7 @@ got_slot address code k r slot n m None at pc there legal stands small fits near
     (arith, e)) refl
     fits stands.0 stands.1 small has)
 
-other_apart : (vars : List ℕ) (slot : ℕ) (o : Option ℕ) → home vars slot ≡ o → register_or o 5 ≡ 28 → ⊥
+pub other_apart : (vars : List ℕ) (slot : ℕ) (o : Option ℕ) → home vars slot ≡ o → register_or o 5 ≡ 28 → ⊥
 other_apart vars slot (Some r) e same =
     let bound = home_bound vars slot r e in
     let high : r < 26 = bound.2 in

@@ -54,7 +54,7 @@ bytes_told memory p (b ∷ bytes) told =
     ∙ ap (option_map (λ others. b ∷ others)) rest
 
 -- a word whose bytes are there
-word_told : (memory : FlatMemory) (p w n : ℕ) → w < 2 ^ 64
+pub word_told : (memory : FlatMemory) (p w n : ℕ) → w < 2 ^ 64
     → ((j : ℕ) → j < 8 → memory (p + j) ≡ Byte (slice_index (little_bytes 8 w) j))
     → number_in memory p 8 ≡ Some n → w ≡ n
 word_told memory p w n small told is =

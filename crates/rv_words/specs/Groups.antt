@@ -91,11 +91,15 @@ pub record Branching (placing : Placing) : Type 0 where
   pub if_zero : (value label : ℕ) → IsFollowedInBody placing (op.BranchIfZero value label)
   pub unless_zero : (value label : ℕ) → IsFollowedInBody placing (op.BranchUnlessZero value label)
 
--- numbers and bytes in memory
+-- numbers that are loaded from memory
 pub record Loading (placing : Placing) : Type 0 where
   pub load : (to : ℕ) (from : Place) (narrow : Narrow) → IsFollowedInBody placing (op.Load to from narrow)
+
+-- numbers that are stored to it
+pub record Storing (placing : Placing) : Type 0 where
   pub store : (to : Place) (from : ℕ) (narrow : Narrow) → IsFollowedInBody placing (op.Store to from narrow)
 
+-- bytes that are copied and cleared
 pub record Copying (placing : Placing) : Type 0 where
   pub copy : (to from : Place) (bytes : ℕ) → IsFollowedInBody placing (op.Copy to from bytes)
   pub clear : (to : Place) (bytes : ℕ) → IsFollowedInBody placing (op.Clear to bytes)

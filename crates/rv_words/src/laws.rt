@@ -1,6 +1,6 @@
 //! The simulation of a program at the word level by the machine that holds its code, operation by operation. Each
 //! function does nothing, and ensures its laws of all placings.
-ghost use Rattle.rv_words.specs.Groups.{Branching, Computing, Jumping, Moving, Naming, Raising, Refusing, Searching};
+ghost use Rattle.rv_words.specs.Groups.{Branching, Computing, Jumping, Loading, Moving, Naming, Raising, Refusing, Searching};
 ghost use Rattle.rv_words.specs.Placing.{IsPlacing, Placing};
 
 /// Constants and addresses.
@@ -11,6 +11,11 @@ pub fn naming()
 /// Words that are moved from a slot to another.
 pub fn moving()
     ensures moving { (placing : Placing) → IsPlacing placing → Moving placing }
+{}
+
+/// Numbers that are loaded from memory.
+pub fn loading()
+    ensures loading { (placing : Placing) → IsPlacing placing → Loading placing }
 {}
 
 /// What is computed of values, and never refused.
