@@ -187,8 +187,10 @@ branch_near address code from to condition x y true m at pc there legal fits is 
       pc = address + 4 * to;
       goes = goes_once address code from to (branch condition x y (distance from to)) m new at pc there legal
           (λ streams. taken condition x y (distance from to) m streams
-          ∙ ap (λ b. Running (record m { pc = cond b (low_bits 64 (pos m.pc +ℤ distance from to))
-          (next_pc m) }) streams)
+          ∙ ap (λ b. Running (record m {
+            pc = cond b (low_bits 64 (pos m.pc +ℤ distance from to))
+                (next_pc m);
+          }) streams)
           is
           ∙ ap (λ p. Running (record m { pc = p }) streams) target)
           (code_in_same_memory address code m new at refl) refl;
@@ -199,8 +201,10 @@ branch_near address code from to condition x y false m at pc there legal fits is
       pc = next_pc m;
       goes = goes_once address code from (from + 1) (branch condition x y (distance from to)) m new at pc there legal
           (λ streams. taken condition x y (distance from to) m streams
-          ∙ ap (λ b. Running (record m { pc = cond b (low_bits 64 (pos m.pc +ℤ distance from to))
-          (next_pc m) }) streams)
+          ∙ ap (λ b. Running (record m {
+            pc = cond b (low_bits 64 (pos m.pc +ℤ distance from to))
+                (next_pc m);
+          }) streams)
           is)
           (code_in_same_memory address code m new at refl)
           (next_place address code from (branch condition x y (distance from to)) m at pc there);

@@ -59,7 +59,7 @@ of_frame body address x low e =
     is_below x (address + body.frame) (second_of (nat_le (address + 128) x) (nat_lt x (address + body.frame)) slots) in
     (omega (arith, from), upto)
 
-in_frames : (program : WordProgram) (address : ℕ) (frames : List Frame) (x : ℕ) → AreStacked program address frames
+pub in_frames : (program : WordProgram) (address : ℕ) (frames : List Frame) (x : ℕ) → AreStacked program address frames
     → x < addresses → list_any (is_of program x) frames ≡ true → (address ≤ x) × (x < program.stack_end)
 in_frames program address [] x stacked low e = cc
 in_frames program address (frame ∷ frames) x stacked low e =
@@ -167,7 +167,8 @@ flat_bytes memory m p zero bytes same told =
     let none : [] ≡ bytes = cc in
     (ap length (sym none), subst (Bytes m p) none tt)
 flat_bytes memory m p (suc count) bytes same told =
-    by (λ others e. flat_bytes memory m (suc p) count others (later memory m p count same) e) (byte_in m.segments p) refl
+    by (λ others e. flat_bytes memory m (suc p) count others (later memory m p count same) e)
+    (byte_in m.segments p) refl
     whole
   where
     here : p + 0 ≡ p
@@ -192,8 +193,7 @@ flat_bytes memory m p (suc count) bytes same told =
     more tail b is None e told' = cc
     more tail b is (Some others) e told' =
         let rest = tail others e in
-        let all : b ∷ others ≡ bytes = cc in
-        (
+        let all : b ∷ others ≡ bytes = cc in (
           ap length (sym all) ∙ ap suc rest.0,
           subst (Bytes m p) all (is, subst (λ q. Bytes m q others) next rest.1),
         )
@@ -228,10 +228,10 @@ flat_number placing state m a count n is stands some fits read =
         → (placing.lowest_data ≤ a) × (a + count ≤ placing.lowest_data + data_bytes placing)
     own bytes e =
         let first = own_in_data placing state a is stands.bounds (omega (arith, some, fits))
-            (bytes_own state.memory a count bytes e a (omega arith) (omega (arith, some))) in
+        (bytes_own state.memory a count bytes e a (omega arith) (omega (arith, some))) in
         let z : ℕ = a + count - 1 in
         let last = own_in_data placing state z is stands.bounds (omega (arith, some, fits))
-            (bytes_own state.memory a count bytes e z (omega (arith, some)) (omega (arith, some))) in
+        (bytes_own state.memory a count bytes e z (omega (arith, some)) (omega (arith, some))) in
         (first.0, omega (arith, first.0, last.1, some))
 
     same : (j : ℕ) → j < count → memory_in placing m (a + j) ≡ cell_of (byte_in m.segments (a + j))
@@ -277,4 +277,5 @@ flat_number placing state m a count n is stands some fits read =
     by None e is_n = cc
     by (Some bytes) e is_n =
         told_by (bytes_in (cells_from (memory_in placing m) a count)) refl
-        (same_number state.memory (memory_in placing m) a count n (memory_told placing state m stands) read) (own bytes e)
+        (same_number state.memory (memory_in placing m) a count n (memory_told placing state m stands) read)
+        (own bytes e)

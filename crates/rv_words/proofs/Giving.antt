@@ -82,9 +82,12 @@ result_of address code place most to n vars m between (Some r) e keeps memory g 
     let high : r < 26 = bound.2 in
     homed_through m between g.new (r - 18) n keeps memory
     (got_home address code place most r (r - 18) n between (omega (arith, low)) (omega (arith, low, high)) g)
-result_of address code place most to n vars m between None e keeps memory g =
-    (keeps_through m between g.new keeps (got_keeps address code place most 7 n between free_7 g), g.memory
-    ∙ memory, g.has)
+result_of address code place most to n vars m between None e keeps memory g = (
+  keeps_through m between g.new keeps (got_keeps address code place most 7 n between free_7 g),
+  g.memory
+      ∙ memory,
+  g.has,
+)
 
 -- The word comes to a register by some lines, behind those of the operands.
 pub word_given : (placing : Placing) (here : Here) (operation : LirOp) (begin to most before own n : ℕ)

@@ -128,7 +128,7 @@ beyond_own m new here rest place k value slot d homed is few less variable fits 
     ap (λ o. word_by_home o new (held_now m new here place) slot) is
     ∙ home_word new (18 + k) (omega arith) (omega (arith, few)) ∙ homed.word in
     own_byte new (record { item = here.item; body = here.body; place = place }) (register m 2)
-        (homes_in new) rest slot d
+    (homes_in new) rest slot d
     less variable fits
     ∙ ap (λ w. Byte (slice_index (little_bytes 8 w) d)) word
 

@@ -39,3 +39,5 @@ pub mod MoveLaws
 pub mod SearchLaws
 pub mod Flat
 pub mod LoadLaws
+pub mod Stored
+pub mod StoreLaws

@@ -185,7 +185,7 @@ got_number address code k narrow rd base offset b a n m at pc there legal h h' a
 
 -- ---- behind an address that a slot holds
 
-place_told : (offset count b a : ℕ) → place_behind offset count b ≡ Some a
+pub place_told : (offset count b a : ℕ) → place_behind offset count b ≡ Some a
     → ((b + offset) % addresses ≡ a) × (a + count ≤ addresses)
 place_told offset count b a e = by (nat_le ((b + offset) % addresses + count) addresses) refl e
   where
@@ -201,7 +201,7 @@ place_told offset count b a e = by (nat_le ((b + offset) % addresses + count) ad
     by false t e' = cc
 
 -- what a sound operation says of its numbers
-numbers_short : (placing : Placing) → IsPlacing placing → (here : Here) (operation : LirOp) (begin : ℕ)
+pub numbers_short : (placing : Placing) → IsPlacing placing → (here : Here) (operation : LirOp) (begin : ℕ)
     (m : MachineState) → IsAt placing here operation begin m → has_short_numbers operation ≡ true
 numbers_short placing is here operation begin m at =
     let body : LirBody = here.body in
@@ -213,7 +213,7 @@ numbers_short placing is here operation begin m at =
     let d : Bool = nat_le (length (passed operation)) most_passed in
     second_of (((a && b) && c) && d) (has_short_numbers operation) all
 
-some_bytes : (narrow : Narrow) → 0 < bytes_of_type narrow
+pub some_bytes : (narrow : Narrow) → 0 < bytes_of_type narrow
 some_bytes Narrow.I1 = omega arith
 some_bytes Narrow.U1 = omega arith
 some_bytes Narrow.I2 = omega arith
@@ -252,9 +252,9 @@ load_flat placing is to base offset b a n narrow here begin m streams at bytes b
     let lines : op_lines body operation ≡ reads_slot (home body.vars base) 5 base ++ rest =
     append_assoc (reads_slot (home body.vars base) 5 base) (own r) (writes_slot (home body.vars to) 7 to) in
     let one = past_operand placing.program begin body s.far_at s.k 5 base b rest m
-        (at_equal placing.program begin body s.far_at s.k (op_lines body operation)
-        (reads_slot (home body.vars base) 5 base ++ rest) m lines
-        (at_site placing here operation begin m s at.stands.serves.registers)) l free_5 (omega arith) (omega arith) in
+    (at_equal placing.program begin body s.far_at s.k (op_lines body operation)
+    (reads_slot (home body.vars base) 5 base ++ rest) m lines
+    (at_site placing here operation begin m s at.stands.serves.registers)) l free_5 (omega arith) (omega arith) in
     let p : Past placing.program begin body s.far_at s.k 4 (op_lines body operation) rest m = record {
       far = one.past.far;
       place = one.past.place;
@@ -281,7 +281,7 @@ load_flat placing is to base offset b a n narrow here begin m streams at bytes b
 
 -- ---- from the frame
 
-home_none : (body : LirBody) (from count : ℕ) → is_variable body (from / 8) ≡ false
+pub home_none : (body : LirBody) (from count : ℕ) → is_variable body (from / 8) ≡ false
     → home_of_bytes body.vars from count ≡ None
 home_none body from count other = by (count == 8) (from % 8 == 0) (home body.vars (from / 8)) refl
   where
@@ -300,7 +300,7 @@ reading_of true beyond_all a n count memory e = (refl, e)
 reading_of false beyond_all a n count memory e = cc
 
 -- of a test that holds of all, that it holds of one of them
-holds_of_one : (p : ℕ → Bool) (xs : List ℕ) (x : ℕ) → list_all p xs ≡ true → list_any (λ y. y == x) xs ≡ true
+pub holds_of_one : (p : ℕ → Bool) (xs : List ℕ) (x : ℕ) → list_all p xs ≡ true → list_any (λ y. y == x) xs ≡ true
     → p x ≡ true
 holds_of_one p [] x all some = cc
 holds_of_one p (y ∷ ys) x all some =
@@ -314,7 +314,7 @@ holds_of_one p (y ∷ ys) x all some =
     by rest true t e = subst (λ z. p z ≡ true) (equal t) (first_of (p y) (list_all p ys) all)
     by rest false t e = rest e
 
-le_true : (p q : ℕ) → p ≤ q → nat_le p q ≡ true
+pub le_true : (p q : ℕ) → p ≤ q → nat_le p q ≡ true
 le_true p q h = grind (arith, nat_tests)
 
 -- bytes that meet a variable are its word
@@ -328,7 +328,7 @@ same_of p q t = grind (arith, nat_tests)
 at_most_of : (p q : ℕ) → nat_le p q ≡ true → p ≤ q
 at_most_of p q t = grind (arith, nat_tests)
 
-whole_of : (from count s : ℕ) → s ≡ from / 8 → 0 < count
+pub whole_of : (from count s : ℕ) → s ≡ from / 8 → 0 < count
     → ((((from == 8 * s) && (count == 8)) || nat_le (from + count) (8 * s)) || nat_le (8 * s + 8) from) ≡ true
     → (from ≡ 8 * s) × (count ≡ 8)
 whole_of from count s is some e =
@@ -357,12 +357,12 @@ word_number placing m q n has low high may is small =
     let found = readable (λ t. t.read) q 8 m.segments may in
     let there : Bytes m q found.0 = read_bytes (λ t. t.read) m q 8 found.0 has.segments found.1 found.2 in
     let bytes_small : (k : ℕ) → k < length found.0 → slice_index found.0 k < 256 = λ k h.
-        let back : q + k - q ≡ k = omega arith in
-        let byte : byte_in m.segments (q + k) ≡ Some (slice_index found.0 k) =
-        at_each m q found.0 there (q + k) (omega arith) (omega (arith, h))
-        ∙ ap (λ i. Some (slice_index found.0 i)) back in
-        subst (λ o. unwrap_or o 0 < 256) byte
-        (small_byte placing m (q + k) has (omega (arith, low)) (omega (arith, high, h, found.2))) in
+    let back : q + k - q ≡ k = omega arith in
+    let byte : byte_in m.segments (q + k) ≡ Some (slice_index found.0 k) =
+    at_each m q found.0 there (q + k) (omega arith) (omega (arith, h))
+    ∙ ap (λ i. Some (slice_index found.0 i)) back in
+    subst (λ o. unwrap_or o 0 < 256) byte
+    (small_byte placing m (q + k) has (omega (arith, low)) (omega (arith, high, h, found.2))) in
     let back : little_bytes 8 n ≡ found.0 =
     ap (little_bytes 8) (sym is ∙ word_read m q found.0 found.2 there)
     ∙ subst (λ k. bytes_low_first 0 k (little_from 0 k found.0) ≡ found.0) found.2 (number_back found.0 bytes_small) in
@@ -508,7 +508,7 @@ load_slot placing is to slot offset n narrow here begin m streams at bytes read 
         let w : SlotWord placing here m v =
         slot_word placing here operation begin m v is at s (le_true (128 + 8 * v + 8) body.frame ends_word) in
         let p : ℕ = cond (is_variable body v) (addresses + (here.frame.address + 128 + 8 * v))
-            (here.frame.address + 128 + 8 * v) in
+        (here.frame.address + 128 + 8 * v) in
         let p_is : addresses + a ≡ p =
         ap (λ f. addresses + (here.frame.address + 128 + f)) whole.0
         ∙ ap (λ b. cond b (addresses + (here.frame.address + 128 + 8 * v)) (here.frame.address + 128 + 8 * v))
@@ -535,7 +535,7 @@ load_slot placing is to slot offset n narrow here begin m streams at bytes read 
             let q : ℕ = register m 2 + slot_place v in
             let q_is : q ≡ a = omega (arith, same, whole.0) in
             let inside = in_data placing here.frame.address body q 8 is room (omega (arith, same))
-                (omega (arith, same, ends, whole.0, whole.1)) in
+            (omega (arith, same, ends, whole.0, whole.1)) in
             let f : FlatNumber m q 8 n =
             word_number placing m q n at.stands.serves.memory inside.0 inside.1 stands.0 stands.1 l.small in
             behind_frame (home_is ∙ e)

@@ -74,7 +74,7 @@ pub slot_cells : (placing : Placing) (here : Here) (operation : LirOp) (begin : 
 slot_cells placing here operation begin m slot cells is at s e =
     let a : ℕ = here.frame.address + 128 + 8 * slot in
     let found = copying (lies_in_frame here.body.frame (word slot)) (is_variable here.body (8 * slot / 8)) a
-        here.state.memory cells e in
+    here.state.memory cells e in
     let index : 8 * slot / 8 ≡ slot = omega arith in
     let p : ℕ = cond (is_variable here.body slot) (addresses + a) a in
     let there : copied here.state.memory p 8 ≡ Some cells =
@@ -151,8 +151,8 @@ moved_by placing is to from here begin m streams cells memory (Some r) at s byte
     let lines : op_lines body operation ≡ singles ins =
     ap (λ h. moves h (home body.vars from) to from) e ∙ gets_singles (home body.vars from) r from in
     let first = first_code placing.program begin body s.far_at s.k ins m
-        (at_equal placing.program begin body s.far_at s.k (op_lines body operation) (singles ins) m lines
-        (at_site placing here operation begin m s at.stands.serves.registers)) in
+    (at_equal placing.program begin body s.far_at s.k (op_lines body operation) (singles ins) m lines
+    (at_site placing here operation begin m s at.stands.serves.registers)) in
     let g : Got begin code (s.k + length ins) 4 r c.own.word m =
     got_slot begin code s.k r from c.own.word m (home body.vars from) s.code_at s.pc first.0 first.1 w.stands w.small
     w.fits
@@ -181,10 +181,10 @@ moved_by placing is to from here begin m streams cells memory None at s bytes c 
     let lines : op_lines body operation ≡ moves None (home body.vars from) to from =
     ap (λ h. moves h (home body.vars from) to from) e in
     let one = past_operand placing.program begin body s.far_at s.k 5 from c.own.word rest m
-        (at_equal placing.program begin body s.far_at s.k (op_lines body operation)
-        (moves None (home body.vars from) to from) m lines
-        (at_site placing here operation begin m s at.stands.serves.registers))
-        c.own.stands free_5 (omega arith) (omega arith) in
+    (at_equal placing.program begin body s.far_at s.k (op_lines body operation)
+    (moves None (home body.vars from) to from) m lines
+    (at_site placing here operation begin m s at.stands.serves.registers))
+    c.own.stands free_5 (omega arith) (omega arith) in
     let q = one.past in
     slot_given placing here operation begin to other 8 4 c.own.word cells memory m streams None is at s
     (other_apart body.vars from (home body.vars from) refl) e

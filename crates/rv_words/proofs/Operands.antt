@@ -189,7 +189,7 @@ free_28 = (λ e. omega (arith, e), λ k h e. omega (arith, h, e))
 pub free_5 : IsFree 5
 free_5 = (λ e. omega (arith, e), λ k h e. omega (arith, e))
 
-free_6 : IsFree 6
+pub free_6 : IsFree 6
 free_6 = (λ e. omega (arith, e), λ k h e. omega (arith, e))
 
 pub past_one : (program : WordProgram) (begin : ℕ) (body : LirBody) (far_at k slot n : ℕ) (next : ℕ → List Line)

@@ -58,7 +58,7 @@ goes_out address code k n ins m between new goes there legal does =
       fetches = λ streams j h. elim (before_or_last j n h) [
         | inl before ↦ goes.fetches streams j before
         | inr last ↦ subst (λ i. FetchesAt address (4 * length code) (after machine_step i (Running m streams)))
-        (sym last)
+            (sym last)
             (record {
               m = between;
               streams = streams;

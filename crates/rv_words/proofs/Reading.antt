@@ -308,7 +308,7 @@ pub slot_stands : (placing : Placing) (here : Here) (operation : LirOp) (begin :
 slot_stands placing here operation begin m slot n is at s told =
     let a : ℕ = here.frame.address + 128 + 8 * slot in
     let found = reading (lies_in_frame here.body.frame (word slot)) (is_variable here.body (8 * slot / 8)) a n
-        here.state.memory told in
+    here.state.memory told in
     let index : 8 * slot / 8 ≡ slot = omega arith in
     let p : ℕ = cond (is_variable here.body slot) (addresses + a) a in
     let read : number_in here.state.memory p 8 ≡ Some n =

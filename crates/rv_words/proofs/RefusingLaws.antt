@@ -189,7 +189,7 @@ answered placing here operation begin before own r n lines rest m s p answers so
     }
 
 -- a home that has got the word, relative to a machine with the same own registers
-homed_by : (m between new : MachineState) (r k n : ℕ) → r ≡ 18 + k → k < 8 → KeepsOwn m between
+pub homed_by : (m between new : MachineState) (r k n : ℕ) → r ≡ 18 + k → k < 8 → KeepsOwn m between
     → between.segments ≡ m.segments → HasRegisters new → register new r ≡ n
     → ((q : ℕ) → (q ≡ r → ⊥) → IsKept q → register new q ≡ register between q) → new.segments ≡ between.segments
     → Homed m new k n
@@ -417,8 +417,8 @@ checked_followed placing is operation kind to left right overflow here begin m s
         let r : SlotStands m here.body.vars right w.word =
         slot_stands placing here whole begin m right w.word is at s w.there in
         let p = past_two placing.program begin here.body s.far_at s.k left right v.word w.word
-            (λ x y. combines_checked operation kind x y overflow ++ puts_slot (home here.body.vars to) 7 to) m
-            (at_site placing here whole begin m s at.stands.serves.registers) l r in
+        (λ x y. combines_checked operation kind x y overflow ++ puts_slot (home here.body.vars to) 7 to) m
+        (at_site placing here whole begin m s at.stands.serves.registers) l r in
         let size = combines_size operation kind x y overflow in
         put_or placing is here whole begin to overflow 20 8 8 (combines_checked operation kind x y overflow) m streams
         (combined_in_range operation kind a b) at s (target_of placing is here whole begin overflow m at [] refl)
@@ -499,8 +499,8 @@ convert_checked_followed placing is narrow from to value overflow here begin m s
         let l : SlotStands m here.body.vars value v.word =
         slot_stands placing here whole begin m value v.word is at s v.there in
         let p = past_one placing.program begin here.body s.far_at s.k value v.word
-            (λ x. converts_checked narrow from x overflow ++ puts_slot (home here.body.vars to) 7 to) m
-            (at_site placing here whole begin m s at.stands.serves.registers) l in
+        (λ x. converts_checked narrow from x overflow ++ puts_slot (home here.body.vars to) 7 to) m
+        (at_site placing here whole begin m s at.stands.serves.registers) l in
         let size = narrows_size narrow from x overflow in
         put_or placing is here whole begin to overflow 12 4 4 (converts_checked narrow from x overflow) m streams
         (value_in_range narrow from a) at s (target_of placing is here whole begin overflow m at [] refl) p.past p.keeps
@@ -636,8 +636,8 @@ divide_followed placing is part kind to left right if_none overflow here begin m
         let r : SlotStands m here.body.vars right w.word =
         slot_stands placing here whole begin m right w.word is at s w.there in
         let p = past_two placing.program begin here.body s.far_at s.k left right v.word w.word
-            (λ x y. to_slot here.body.vars to (λ r. divides part kind r x y if_none overflow)) m
-            (at_site placing here whole begin m s at.stands.serves.registers) l r in
+        (λ x y. to_slot here.body.vars to (λ r. divides part kind r x y if_none overflow)) m
+        (at_site placing here whole begin m s at.stands.serves.registers) l r in
         by_parts placing is here part kind to left right if_none overflow begin x y m streams a b at s bytes p.past
         p.keeps
         p.memory (operand_kept here.body.vars left 5 (home here.body.vars left) refl (omega arith))

@@ -85,14 +85,14 @@ pub record PutWord (address : ℕ) (code : List Ins) (place most a value : ℕ) 
   pub keeps : KeepsOwn m new
   pub registers : HasRegisters new
 
-same_registers : (m new : MachineState) → new.registers ≡ m.registers → HasRegisters m → HasRegisters new
+pub same_registers : (m new : MachineState) → new.registers ≡ m.registers → HasRegisters m → HasRegisters new
 same_registers m new e has = record {
   count = ap length e ∙ has.count;
   x0 = ap (λ rs. slice_index rs 0) e ∙ has.x0;
   words = subst (All (λ w. w < 2 ^ 64)) (sym e) has.words;
 }
 
-same_keeps : (m new : MachineState) → new.registers ≡ m.registers → KeepsOwn m new
+pub same_keeps : (m new : MachineState) → new.registers ≡ m.registers → KeepsOwn m new
 same_keeps m new e = record {
   frame = ap (λ rs. slice_index rs 2) e;
   homes = λ k h. ap (λ rs. slice_index rs (18 + k)) e;
@@ -184,7 +184,7 @@ put_word address code k rs offset a value m at pc there legal other is place fit
 
 -- ---- what the program writes
 
-writing : (lies beyond_all : Bool) (a : ℕ) (memory new : FlatMemory) (cells : List Cell)
+pub writing : (lies beyond_all : Bool) (a : ℕ) (memory new : FlatMemory) (cells : List Cell)
     → option_and_then (λ p. with_cells memory p cells) (cond lies (Some (cond beyond_all (addresses + a) a)) None)
     ≡ Some new
     → (lies ≡ true) × (with_cells memory (cond beyond_all (addresses + a) a) cells ≡ Some new)

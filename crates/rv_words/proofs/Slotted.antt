@@ -63,7 +63,7 @@ byte_small : (n k : ℕ) → byte_at k n < 256
 byte_small n zero = omega arith
 byte_small n (suc k) = omega arith
 
-bytes_small : (j n value : ℕ) → All (λ b. b < 256) (bytes_low_first j n value)
+pub bytes_small : (j n value : ℕ) → All (λ b. b < 256) (bytes_low_first j n value)
 bytes_small j zero value k d h = absurd (omega (arith, h))
 bytes_small j (suc n) value zero d h = byte_small value j
 bytes_small j (suc n) value (suc k) d h = bytes_small (suc j) n value k d (omega (arith, h))
@@ -292,7 +292,7 @@ stands_put placing state m new frame below body place slot value cells b is stan
         on_written placing state m new frame below place a bytes is stands frames i spot put.writes put.keeps
         put.registers
         (in_data placing (register m 2) i.here.body a 8 is room (omega arith) (omega (arith, fits_here))).0
-        (bytes_small 0 8 value) heap (inr (omega arith)) room clear
+        (bytes_small 0 8 value) (λ room_left. heap) (inr (omega arith)) room clear
 
     beyond_is : (y : ℕ) → (is_variable i.here.body slot ≡ true → (y < a) ⊎ (a + 8 ≤ y))
         → beyond new (held_in placing new) y ≡ beyond m (held_in placing m) y

@@ -1,6 +1,7 @@
 -- What stays of the frames where a machine has written to memory.
 use Rattle.std.proofs.Common.{◌≡◌, ◌∙◌, ◌⊎◌, inl, inr, ℕ, ◌+◌, ◌-◌, ◌*◌, ◌<◌, ◌≤◌, true, All}
 use Rattle.std.proofs.Common.{List, [], ◌∷◌, length, drop, replicate, Option, Some, arith, ap, sym, subst}
+use Rattle.std.proofs.Common.{zero, suc}
 use Rattle.std.proofs.Common.{slice_index}
 use Rattle.std.proofs.lemmas.List.{length-replicate}
 use Rattle.rv_step.specs.Machine.{MachineState, bytes_at, register}
@@ -166,21 +167,27 @@ program_written placing m new p bytes is has writes above small = record {
   ];
 }
 
+zeros_written : (m new : MachineState) (p a k : ℕ) (bytes : List ℕ) → Writes p bytes m new
+    → (0 < k → AreApart p (length bytes) a k) → Bytes m a (replicate k 0) → Bytes new a (replicate k 0)
+zeros_written m new p a zero bytes writes apart zeros = tt
+zeros_written m new p a (suc k) bytes writes apart zeros =
+    let count : length (replicate (suc k) 0) ≡ suc k = length-replicate (suc k) 0 in
+    writes.kept a (replicate (suc k) 0)
+    (subst (λ n. AreApart p (length bytes) a n) (sym count) (apart (omega arith))) zeros
+
 pub clear_written : (m new : MachineState) (p : ℕ) (bytes : List ℕ) → Writes p bytes m new
     → register new 26 ≡ register m 26 → register new 27 ≡ register m 27
-    → AreApart p (length bytes) (register m 27) (register m 26 - register m 27) → HasClearHeap m → HasClearHeap new
+    → (0 < register m 26 - register m 27 → AreApart p (length bytes) (register m 27) (register m 26 - register m 27))
+    → HasClearHeap m → HasClearHeap new
 clear_written m new p bytes writes lowest_same heap apart clear =
     let size : register new 26 - register new 27 ≡ register m 26 - register m 27 =
     ap (λ n. n - register new 27) lowest_same ∙ ap (λ n. register m 26 - n) heap in
-    let zeros : List ℕ = replicate (register m 26 - register m 27) 0 in
-    let count : length zeros ≡ register m 26 - register m 27 = length-replicate (register m 26 - register m 27) 0 in
     record {
       order = subst (λ n. n ≤ register new 26) (sym heap)
           (subst (λ n. register m 27 ≤ n) (sym lowest_same) clear.order);
       zeros = subst (λ a. Bytes new a (replicate (register new 26 - register new 27) 0)) (sym heap)
           (subst (λ n. Bytes new (register m 27) (replicate n 0)) (sym size)
-          (writes.kept (register m 27) zeros
-          (subst (λ n. AreApart p (length bytes) (register m 27) n) (sym count) apart) clear.zeros));
+          (zeros_written m new p (register m 27) (register m 26 - register m 27) bytes writes apart clear.zeros));
     }
 
 -- ---- the machine is on
@@ -190,7 +197,7 @@ pub on_written : (placing : Placing) (state : WordState) (m new : MachineState) 
     → (i : InnerIn placing m frame below)
     → stands_at placing new.pc ≡ Some (record { item = i.here.item; body = i.here.body; place = place })
     → Writes p bytes m new → KeepsOwn m new → HasRegisters new → placing.lowest_data ≤ p → All (λ b. b < 256) bytes
-    → AreApart p (length bytes) (register m 27) (register m 26 - register m 27)
+    → (0 < register m 26 - register m 27 → AreApart p (length bytes) (register m 27) (register m 26 - register m 27))
     → AreApart p (length bytes) (register m 2) fixed_bytes
     → HasRoom placing (register m 2) i.here.body
     → AreClear p (length bytes) (rest_of i.count placing m (held_at i.here (register m 2) (homes_in m)))

@@ -1,6 +1,7 @@
 //! The simulation of a program at the word level by the machine that holds its code, operation by operation. Each
 //! function does nothing, and ensures its laws of all placings.
-ghost use Rattle.rv_words.specs.Groups.{Branching, Computing, Jumping, Loading, Moving, Naming, Raising, Refusing, Searching};
+ghost use Rattle.rv_words.specs.Groups.{Branching, Computing, Jumping, Loading, Moving, Naming, Raising, Refusing};
+ghost use Rattle.rv_words.specs.Groups.{Searching, Storing};
 ghost use Rattle.rv_words.specs.Placing.{IsPlacing, Placing};
 
 /// Constants and addresses.
@@ -16,6 +17,11 @@ pub fn moving()
 /// Numbers that are loaded from memory.
 pub fn loading()
     ensures loading { (placing : Placing) → IsPlacing placing → Loading placing }
+{}
+
+/// Numbers that are stored to memory.
+pub fn storing()
+    ensures storing { (placing : Placing) → IsPlacing placing → Storing placing }
 {}
 
 /// What is computed of values, and never refused.

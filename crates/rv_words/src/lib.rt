@@ -4,4 +4,6 @@
 
 mod laws;
 
-pub use laws::{branching, computing, jumping, loading, moving, naming, raising, refusing, searching};
+pub use laws::{
+    branching, computing, jumping, loading, moving, naming, raising, refusing, searching, storing,
+};
