@@ -18,7 +18,8 @@ use Rattle.ty_names.specs.Modules.{World}
 use Rattle.ty_terms.specs.Exact.{IsExactOrder}
 use Rattle.cli_layout.specs.declared.rows.Loaded.{Loaded}
 use Rattle.cli_layout.specs.declared.rows.TypeLayout.{TypeLayout}
-use Rattle.cli_layout.specs.Loading.{AreFound, Gives, loaded, with_statics, IsLoaded, IsSmall, IsSmallOne, layout_in, layout_or, loaded_by, why, with_next}
+use Rattle.cli_layout.specs.Loading.{AreFound, Gives, loaded, with_statics, IsLoaded, IsSmall, IsSmallOne, layout_in}
+use Rattle.cli_layout.specs.Loading.{layout_or, loaded_by, why, with_next}
 use Rattle.cli_layout.specs.Types.{bare, laid_of, statics_of}
 
 -- those that are loaded, in front of what comes of the others

@@ -1,11 +1,13 @@
 -- Segments that aren't too large are those of the file.
-use Rattle.std.proofs.Common.{◌≡◌, ◌∙◌, ◌+◌, ◌-◌, ◌≤◌, ◌++◌, ◌&&◌, ℕ, List, Bool, true, false, cond, not, nat_le, length, map}
+use Rattle.std.proofs.Common.{◌≡◌, ◌∙◌, ◌+◌, ◌-◌, ◌≤◌, ◌++◌, ◌&&◌, ℕ, List, Bool, true, false, cond, not, nat_le}
+use Rattle.std.proofs.Common.{length, map}
 use Rattle.std.proofs.Common.{None, Some, Option, ap, sym, subst, arith, refl, length-append, true≢false}
 use borrow.Author.Tests.{leb-true}
 use Rattle.std.specs.List.{list_all}
 use Rattle.num_core.specs.declared.bounds.Bounds.{Bounds}
 use Rattle.elf_file.specs.Elf.{base, headers_size, up_to_page, text_size as text_size_of}
-use Rattle.image_plan.specs.Places.{address_of, code_at, code_size, front_at, routines, routines_at, table_size, tables_at}
+use Rattle.image_plan.specs.Places.{address_of, code_at, code_size, front_at, routines, routines_at, table_size}
+use Rattle.image_plan.specs.Places.{tables_at}
 use Rattle.image_plan.specs.Places.{tables_end, text_end, zeros}
 use Rattle.image_plan.specs.Planned.{SegmentsFit, code_fixes_fit, is_placeable, layout_of, most_bytes, rest_size}
 use Rattle.image_plan.specs.Planned.{table_fixes_fit, text_size, too_large}

@@ -1,5 +1,6 @@
 -- How many bytes what is written takes.
-use Rattle.std.proofs.Common.{◌≡◌, ◌∙◌, ◌+◌, ◌-◌, ◌*◌, ◌/◌, ◌<◌, ◌≤◌, ◌++◌, ◌∷◌, ◌&&◌, [], ℕ, suc, List, length, map, take}
+use Rattle.std.proofs.Common.{◌≡◌, ◌∙◌, ◌+◌, ◌-◌, ◌*◌, ◌/◌, ◌<◌, ◌≤◌, ◌++◌, ◌∷◌, ◌&&◌, [], ℕ, suc, List, length, map}
+use Rattle.std.proofs.Common.{take}
 use Rattle.std.proofs.Common.{drop, Bool, true, false, ap, sym, subst, arith, refl, length-append, get_or, true≢false}
 use Rattle.std.proofs.Common.{nat_le, nat_lt}
 use Rattle.std.proofs.lemmas.List.{take-append-drop, length-take-le, length-drop, length-replicate, drop_more}

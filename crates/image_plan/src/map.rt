@@ -34,18 +34,20 @@ fn add_rows(
 }
 
 /// The rows of the code of bodies of which the first begins at an address.
-pub(crate) fn map(
-    alloc: Global,
-    begin: u64,
-    pieces: &[CodePiece],
-) -> Result<List<MapRow>, Memory>
+pub(crate) fn map(alloc: Global, begin: u64, pieces: &[CodePiece]) -> Result<List<MapRow>, Memory>
     requires { end_of begin (map_all code_size_of pieces.now) < 2 ^ 32 }
     ensures { IfOk result (λ map. map ≡ map_rows begin pieces.now) }
 {
     let mut rows = List::new(alloc);
     let mut at = begin;
     for piece in pieces {
-        add_rows(alloc, &mut rows, at, &piece.method, piece.code.map.as_slice())?;
+        add_rows(
+            alloc,
+            &mut rows,
+            at,
+            &piece.method,
+            piece.code.map.as_slice(),
+        )?;
         at += code_size(piece);
     }
     Ok(rows)

@@ -89,7 +89,12 @@ fn add_tables(names: &mut List<Name>, begin: u64, tables: &[TablePiece]) -> Resu
 }
 
 /// All names, with their addresses.
-pub(crate) fn names(alloc: Global, pieces: &Pieces, begins: &[u64], ends: Ends) -> Result<List<Name>, Memory>
+pub(crate) fn names(
+    alloc: Global,
+    pieces: &Pieces,
+    begins: &[u64],
+    ends: Ends,
+) -> Result<List<Name>, Memory>
     requires routines { begins.now ≡ routine_begins }
     requires ends { HasEnds pieces.now ends }
     ensures { IfOk result (λ names. names ≡ names_of pieces.now) }

@@ -57,7 +57,14 @@ fn add_bodies(
     let mut at = begin;
     for piece in pieces {
         let size = code_size(piece);
-        add(alloc, parts, PartKind::Code, piece.nodes.as_slice(), at, size)?;
+        add(
+            alloc,
+            parts,
+            PartKind::Code,
+            piece.nodes.as_slice(),
+            at,
+            size,
+        )?;
         at += size;
     }
     Ok(())
@@ -107,7 +114,14 @@ pub(crate) fn parts(alloc: Global, pieces: &Pieces, ends: Ends) -> Result<List<P
     add(alloc, &mut parts, PartKind::Header, &[], 0, HEADERS_SIZE)?;
     let code_at = ends.code_at - BASE;
     let size = code_at - HEADERS_SIZE;
-    add(alloc, &mut parts, PartKind::Runtime, &[], HEADERS_SIZE, size)?;
+    add(
+        alloc,
+        &mut parts,
+        PartKind::Runtime,
+        &[],
+        HEADERS_SIZE,
+        size,
+    )?;
     add_bodies(alloc, &mut parts, code_at, pieces.code.as_slice())?;
     let text_size = ends.text - BASE;
     let second = ends.tables_at - BASE;

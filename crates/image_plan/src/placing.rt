@@ -2,7 +2,8 @@ ghost use Rattle.std.specs.Prelude.{◌≡◌, ◌<◌, length, None, true, IfEr
 ghost use Rattle.image_plan.specs.Ends.{HasEnds};
 ghost use Rattle.image_plan.specs.Found.{address_in};
 ghost use Rattle.image_plan.specs.Places.{root_at as root_at_of, routine_begins, routines, tables_at};
-ghost use Rattle.image_plan.specs.Planned.{SegmentsFit, TellsLimit, is_placeable as is_placeable_of, layout_of, layout_with, map_of, parts_of, too_large};
+ghost use Rattle.image_plan.specs.Planned.{SegmentsFit, TellsLimit, is_placeable as is_placeable_of, layout_of};
+ghost use Rattle.image_plan.specs.Planned.{layout_with, map_of, parts_of, too_large};
 ghost use Rattle.image_plan.specs.Written.{routine_bytes, text_with};
 
 use crate::addresses::{Addresses, addresses_of};

@@ -7,7 +7,8 @@ ghost use Rattle.image_plan.specs.Found.{address_in};
 ghost use Rattle.image_plan.specs.Places.{code_size as code_size_of, end_of};
 ghost use Rattle.image_plan.specs.Planned.{code_fixes_fit};
 ghost use Rattle.image_plan.specs.Written.{bits_between as bits_of, bytes_of, code_bytes, with_address, with_addresses};
-ghost use Rattle.image_plan.specs.Written.{target as target_of, with_lower as with_lower_of, with_upper as with_upper_of};
+ghost use Rattle.image_plan.specs.Written.{target as target_of, with_lower as with_lower_of};
+ghost use Rattle.image_plan.specs.Written.{with_upper as with_upper_of};
 
 use crate::addresses::Addresses;
 use crate::ends::code_size;

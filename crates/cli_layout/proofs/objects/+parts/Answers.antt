@@ -1,5 +1,6 @@
 use Rattle.std.proofs.Common.{◌-◌, rules}
-use Rattle.cli_layout.proofs.PartLaws.{defined, large, large_with_fault, missing, nothing, positive, undefined, with_fault}
+use Rattle.cli_layout.proofs.PartLaws.{defined, large, large_with_fault, missing, nothing, positive, undefined}
+use Rattle.cli_layout.proofs.PartLaws.{with_fault}
 use Rattle.cli_layout.proofs.PartLaws.{with_part}
 use Rattle.cli_layout.proofs.objects.+parts.Goals as goal
 

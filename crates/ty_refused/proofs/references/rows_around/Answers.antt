@@ -1,4 +1,5 @@
-use Rattle.std.proofs.Common.{rules, ◌≡◌, ◌∙◌, ◌++◌, ◌∷◌, ◌-◌, [], ℕ, suc, List, true, false, ap, sym, subst, arith, nat_eq}
+use Rattle.std.proofs.Common.{rules, ◌≡◌, ◌∙◌, ◌++◌, ◌∷◌, ◌-◌, [], ℕ, suc, List, true, false, ap, sym, subst, arith}
+use Rattle.std.proofs.Common.{nat_eq}
 use Rattle.std.specs.List.{list_any}
 use Rattle.md_tables.specs.declared.module.Table.{Table}
 use Rattle.ty_names.specs.declared.cells.RowOf.{RowOf}
