@@ -1,19 +1,18 @@
 -- Segments that aren't too large are those of the file.
-use Rattle.std.proofs.Common.{◌≡◌, ◌∙◌, ◌+◌, ◌-◌, ◌≤◌, ◌++◌, ◌&&◌, ℕ, List, Bool, true, false, cond, not, nat_le}
-use Rattle.std.proofs.Common.{length, map}
-use Rattle.std.proofs.Common.{None, Some, Option, ap, sym, subst, arith, refl, length-append, true≢false}
+use Rattle.std.proofs.Common.{◌≡◌, ◌+◌, ◌≤◌, ◌++◌, ◌&&◌, ℕ, List, Bool, true, false, cond, not, nat_le}
+use Rattle.std.proofs.Common.{length, nat_lt}
+use Rattle.std.proofs.Common.{None, Some, arith, refl, length-append}
 use borrow.Author.Tests.{leb-true}
 use Rattle.std.specs.List.{list_all}
 use Rattle.num_core.specs.declared.bounds.Bounds.{Bounds}
-use Rattle.elf_file.specs.Elf.{base, headers_size, up_to_page, text_size as text_size_of}
-use Rattle.image_plan.specs.Places.{address_of, code_at, code_size, front_at, routines, routines_at, table_size}
+use Rattle.elf_file.specs.Elf.{headers_size}
+use Rattle.image_plan.specs.Places.{address_of, code_at, routines, routines_at}
 use Rattle.image_plan.specs.Places.{tables_at}
-use Rattle.image_plan.specs.Places.{tables_end, text_end, zeros}
+use Rattle.image_plan.specs.Places.{tables_end, text_end}
 use Rattle.image_plan.specs.Planned.{SegmentsFit, code_fixes_fit, is_placeable, layout_of, most_bytes, rest_size}
 use Rattle.image_plan.specs.Planned.{table_fixes_fit, text_size, too_large}
 use Rattle.image_plan.specs.Written.{code_bytes, front, routine_bytes, table_bytes, text_with}
 use Rattle.image_plan.specs.declared.pieces.Pieces.{Pieces}
-use Rattle.image_plan.proofs.Ending.{begin_below}
 use Rattle.image_plan.proofs.Lengths.{behind_both, code_length, routines_length, tables_length}
 
 text_is : (pieces : Pieces) (bounds : Bounds)
@@ -44,10 +43,9 @@ segments_fit pieces bounds fits small =
     let both : (nat_le (text_size pieces) most_bytes ≡ true) × (nat_le (rest_size pieces bounds) most_bytes ≡ true) =
     first_fits (nat_le (text_size pieces) most_bytes) (nat_le (rest_size pieces bounds) most_bytes) (text_size pieces)
     (rest_size pieces bounds) small in
-    let code : list_all code_fixes_fit pieces.code && list_all table_fixes_fit pieces.tables ≡ true =
-    behind_both _ (list_all code_fixes_fit pieces.code && list_all table_fixes_fit pieces.tables) fits in
     let tables : list_all table_fixes_fit pieces.tables ≡ true =
-    behind_both (list_all code_fixes_fit pieces.code) (list_all table_fixes_fit pieces.tables) code in
+    behind_both (nat_lt pieces.root (length pieces.tables) && list_all code_fixes_fit pieces.code)
+    (list_all table_fixes_fit pieces.tables) fits in
     let bytes : List ℕ = table_bytes (address_of pieces) pieces.tables in
     let rest : tables_at pieces + length bytes ≡ tables_end pieces =
     tables_length (address_of pieces) (tables_at pieces) pieces.tables tables in

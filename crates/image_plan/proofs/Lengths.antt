@@ -2,7 +2,7 @@
 use Rattle.std.proofs.Common.{◌≡◌, ◌∙◌, ◌+◌, ◌-◌, ◌*◌, ◌/◌, ◌<◌, ◌≤◌, ◌++◌, ◌∷◌, ◌&&◌, [], ℕ, suc, List, length, map}
 use Rattle.std.proofs.Common.{take}
 use Rattle.std.proofs.Common.{drop, Bool, true, false, ap, sym, subst, arith, refl, length-append, get_or, true≢false}
-use Rattle.std.proofs.Common.{nat_le, nat_lt}
+use Rattle.std.proofs.Common.{nat_le}
 use Rattle.std.proofs.lemmas.List.{take-append-drop, length-take-le, length-drop, length-replicate, drop_more}
 use borrow.Author.Tests.{leb-true}
 use Rattle.std.specs.List.{list_all}
