@@ -116,8 +116,14 @@ fn fits(alloc: Global, names: &Names, from: &str, to: &str) -> Result<(bool, boo
 fn types_that_fit(rt: HostRuntime) -> Result<(), Fail> {
     let names = world(rt.alloc())?;
     assert_eq!(rt; fits(rt.alloc(), &names, "String", "Object")?, (true, true));
-    assert_eq!(rt; fits(rt.alloc(), &names, "Object", "String")?, (false, false));
-    assert_eq!(rt; fits(rt.alloc(), &names, "Int32", "ValueType")?, (true, false));
+    assert_eq!(rt;
+        fits(rt.alloc(), &names, "Object", "String")?,
+        (false, false)
+    );
+    assert_eq!(rt;
+        fits(rt.alloc(), &names, "Int32", "ValueType")?,
+        (true, false)
+    );
     let above = base_type(&names, rt.alloc(), &vector(rt.alloc(), &names, "Int32")?);
     let (array, _) = core_type(rt.alloc(), &names, "System", "Array")?;
     assert!(rt; above.ok().ok_or("an answer")? == Some(array));
@@ -128,10 +134,17 @@ fn types_that_fit(rt: HostRuntime) -> Result<(), Fail> {
 fn types_of_rows(rt: HostRuntime) -> Result<(), Fail> {
     let names = world(rt.alloc())?;
     let none = List::new(rt.alloc());
-    let object = RowOf { table: 0x01, row: 1 };
+    let object = RowOf {
+        table: 0x01,
+        row: 1,
+    };
     let found = names.type_by(rt.alloc(), 0, object, &none, &none, object);
     assert!(rt; found.ok().ok_or("a type")? == Ty::Prim(Primitive::Object));
-    assert!(rt; names.interface_indexes(TypeId { module: 0, row: 1 }).is_empty());
+    assert!(rt;
+        names
+            .interface_indexes(TypeId { module: 0, row: 1 })
+            .is_empty()
+    );
     let int = names.system_type(rt.alloc(), b"Int32")?.ok_or("a type")?;
     let values = Values::new(rt.alloc(), &names)?;
     assert!(rt; values.has(int));
