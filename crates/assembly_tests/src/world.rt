@@ -8,8 +8,9 @@ use pe_image::open_image;
 use std::alloc::Global;
 use std::test::Fail;
 use ty_load::{Names, are_numbered, assembly_name, primitive_name};
-use ty_names::{row_count, type_name, type_namespace};
-use ty_terms::{Primitive, Ty, TypeId};
+use ty_names::{RowOf, type_name, type_namespace};
+use ty_terms::{Boxed, Primitive, Ty, TypeId};
+use ty_walks::{Values, base_type, fitting};
 
 /// The module in the bytes.
 fn read(alloc: Global, bytes: &[u8]) -> Option<Module> {
@@ -79,11 +80,7 @@ fn types_of_references(rt: HostRuntime) -> Result<(), Fail> {
 fn core_type(alloc: Global, names: &Names, namespace: &str, name: &str) -> Result<(Ty, u32), Fail> {
     let found = names.type_named(alloc, 1, 0, namespace.as_bytes(), name.as_bytes())?;
     let id = found.ok_or("a type")?;
-    if 1 <= id.row && id.row as usize <= row_count(names.tables(id.module), 0x02) {
-        Ok((names.type_of(id, List::new(alloc)), names.parameters(id)))
-    } else {
-        Err(Fail::from("a row"))
-    }
+    Ok((names.type_of(id, List::new(alloc)), names.parameters(id)))
 }
 
 #[test]
@@ -96,5 +93,62 @@ fn types_of_the_core(rt: HostRuntime) -> Result<(), Fail> {
     assert!(rt; matches!(list, Ty::Named(_, _)));
     assert_eq!(rt; one, 1);
     assert!(rt; primitive_name(Primitive::I4) == b"Int32".as_slice());
+    Ok(())
+}
+
+/// A vector of a type of the core in the namespace System.
+fn vector(alloc: Global, names: &Names, name: &str) -> Result<Ty, Fail> {
+    let (element, _) = core_type(alloc, names, "System", name)?;
+    Ok(Ty::Vector(Boxed::new(alloc, element)?))
+}
+
+/// Whether a type of the namespace System fits another, and a vector of it one of the other.
+fn fits(alloc: Global, names: &Names, from: &str, to: &str) -> Result<(bool, bool), Fail> {
+    let (a, _) = core_type(alloc, names, "System", from)?;
+    let (b, _) = core_type(alloc, names, "System", to)?;
+    let plain = fitting(names, alloc, &a, &b).ok().ok_or("an answer")?;
+    let (a, b) = (vector(alloc, names, from)?, vector(alloc, names, to)?);
+    let vectors = fitting(names, alloc, &a, &b).ok().ok_or("an answer")?;
+    Ok((plain, vectors))
+}
+
+#[test]
+fn types_that_fit(rt: HostRuntime) -> Result<(), Fail> {
+    let names = world(rt.alloc())?;
+    assert_eq!(rt; fits(rt.alloc(), &names, "String", "Object")?, (true, true));
+    assert_eq!(rt;
+        fits(rt.alloc(), &names, "Object", "String")?,
+        (false, false)
+    );
+    assert_eq!(rt;
+        fits(rt.alloc(), &names, "Int32", "ValueType")?,
+        (true, false)
+    );
+    let above = base_type(&names, rt.alloc(), &vector(rt.alloc(), &names, "Int32")?);
+    let (array, _) = core_type(rt.alloc(), &names, "System", "Array")?;
+    assert!(rt; above.ok().ok_or("an answer")? == Some(array));
+    Ok(())
+}
+
+#[test]
+fn types_of_rows(rt: HostRuntime) -> Result<(), Fail> {
+    let names = world(rt.alloc())?;
+    let none = List::new(rt.alloc());
+    let object = RowOf {
+        table: 0x01,
+        row: 1,
+    };
+    let found = names.type_by(rt.alloc(), 0, object, &none, &none, object);
+    assert!(rt; found.ok().ok_or("a type")? == Ty::Prim(Primitive::Object));
+    assert!(rt;
+        names
+            .interface_indexes(TypeId { module: 0, row: 1 })
+            .is_empty()
+    );
+    let int = names.system_type(rt.alloc(), b"Int32")?.ok_or("a type")?;
+    let values = Values::new(rt.alloc(), &names)?;
+    assert!(rt; values.has(int));
+    assert!(rt; !values.has(TypeId { module: 0, row: 1 }));
+    assert!(rt; !values.list().is_empty());
     Ok(())
 }
