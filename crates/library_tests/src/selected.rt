@@ -368,7 +368,7 @@ fn method(alloc: Global) -> MethodName {
 
 /// Adds the code of a body, if it is sound.
 fn add_body(alloc: Global, code: &mut List<CodePiece>, body: &LirBody) -> Result<(), Memory> {
-    if !check(body) {
+    if !check(body) || code.len() >= 100 {
         return Ok(());
     }
     let number = code.len() as u32;
