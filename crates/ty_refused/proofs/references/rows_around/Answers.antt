@@ -1,5 +1,5 @@
-use Rattle.std.proofs.Common.{rules, ◌≡◌, ◌∙◌, ◌++◌, ◌∷◌, ◌-◌, [], ℕ, suc, List, true, false, ap, sym, subst, arith}
-use Rattle.std.proofs.Common.{nat_eq}
+use Rattle.std.proofs.Common.{rules, ◌≡◌, ◌∙◌, ◌++◌, ◌∷◌, ◌-◌, [], ℕ, suc, List, true, false, ap, sym, subst}
+use Rattle.std.proofs.Common.{arith, nat_eq}
 use Rattle.std.specs.List.{list_any}
 use Rattle.md_tables.specs.declared.module.Table.{Table}
 use Rattle.ty_names.specs.declared.cells.RowOf.{RowOf}
@@ -24,4 +24,5 @@ loop-left-preserved c =
     let nested : is_nested_reference tables next ≡ true = sym c.is_nested_reference.ensures ∙ on in
     subst (Makes tables whole c.insert.new.self.keys (left - 1))
     (sym (ap (λ (scope : RowOf). scope.row) c.coded_at-next.ensures))
-    (goes_out tables whole keys left next c.loop-left.invariant (left - 1) more c.insert.new.self.keys fresh added nested)
+    (goes_out tables whole keys left next c.loop-left.invariant (left - 1) more c.insert.new.self.keys fresh added
+    nested)
