@@ -6,3 +6,5 @@ pub mod Sound
 pub mod Telling
 pub mod Copying
 pub mod Stacked
+pub mod Owned
+pub mod Giving

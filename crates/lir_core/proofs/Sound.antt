@@ -1,12 +1,14 @@
 -- What a test of all operations says of the one at a place, and where the slots of a frame lie.
 use Rattle.std.proofs.Common.{◌≡◌, ◌≢◌, ℕ, zero, suc, ◌+◌, ◌*◌, ◌/◌, ◌<◌, ◌≤◌, ◌⊎◌, inl, inr, Bool, true, false}
-use Rattle.std.proofs.Common.{◌&&◌, cond, List, [], ◌∷◌, Some, None, refl, subst, arith}
+use Rattle.std.proofs.Common.{◌&&◌, cond, nat_le, nat_lt, length, List, [], ◌∷◌, Some, None, refl, subst, arith}
 use Rattle.std.specs.Prelude.{slice_get}
 use Rattle.std.specs.List.{list_all}
 use Rattle.std.proofs.lemmas.Bool.{cases_order, leb-true}
-use Rattle.lir_core.specs.Check.{is_sound, is_sound_op, lies_in_frame, marks_are_places, ops_are_sound}
+use Rattle.lir_core.specs.Check.{can_be_addressed, fits, has_short_numbers, is_sound, is_sound_op, lies_in_frame}
+use Rattle.lir_core.specs.Check.{marks_are_places, ops_are_sound}
 use Rattle.lir_core.specs.Check.{vars_are_slots}
-use Rattle.lir_core.specs.Pieces.{word}
+use Rattle.lir_core.specs.Frame.{most_passed}
+use Rattle.lir_core.specs.Pieces.{addressed, labels, passed, touched, word}
 use Rattle.lir_core.specs.Slots.{addresses, is_variable, place_in_frame}
 use Rattle.lir_core.specs.declared.body.LirBody.{LirBody}
 use Rattle.lir_core.specs.declared.op.LirOp.{LirOp}
@@ -32,6 +34,14 @@ pub operation_at : (body : LirBody) (place : ℕ) (op : LirOp)
 operation_at body place op sound found =
     let upper = first_of (ops_are_sound body && marks_are_places body) (vars_are_slots body) sound in
     at_place (is_sound_op body) body.ops place op (first_of (ops_are_sound body) (marks_are_places body) upper) found
+
+pub short_at : (body : LirBody) (place : ℕ) (op : LirOp)
+    → is_sound body ≡ true → slice_get body.ops place ≡ Some op → has_short_numbers op ≡ true
+short_at body place op sound found =
+    second_of
+    (list_all (fits body) (touched op) && list_all (can_be_addressed body) (addressed op)
+    && list_all (λ label. nat_lt label (length body.ops)) (labels op) && nat_le (length (passed op)) most_passed)
+    (has_short_numbers op) (operation_at body place op sound found)
 
 -- a place that is given under two tests: the first holds, and the second says which of two it is
 placed : (lies beyond : Bool) (n p : ℕ)

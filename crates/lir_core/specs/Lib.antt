@@ -13,3 +13,4 @@ pub mod Step
 pub mod Layout
 pub mod Tells
 pub mod Small
+pub mod Owning

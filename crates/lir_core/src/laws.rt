@@ -8,13 +8,15 @@ ghost use Rattle.lir_core.specs.Frame.{scratch_slots as scratch_slots_of};
 ghost use Rattle.lir_core.specs.Handlers.{unhandled_text};
 ghost use Rattle.lir_core.specs.Memory.{Cell, FlatMemory, cells_from, cells_of, copied, number_in, overwritten};
 ghost use Rattle.lir_core.specs.Memory.{with_cells};
-ghost use Rattle.lir_core.specs.Check.{is_sound, is_sound_op};
+ghost use Rattle.lir_core.specs.Check.{has_short_numbers, is_sound, is_sound_op};
 ghost use Rattle.lir_core.specs.Layout.{FramesFit, IsLaidOut};
 ghost use Rattle.lir_core.specs.Pieces.{word};
 ghost use Rattle.lir_core.specs.Program.{WordProgram};
 ghost use Rattle.lir_core.specs.Slots.{addresses, place_in_frame};
 ghost use Rattle.lir_core.specs.declared.body.LirBody.{LirBody};
 ghost use Rattle.lir_core.specs.declared.op.LirOp.{LirOp};
+ghost use Rattle.lir_core.specs.Owning.{GivesHeap, OwnsNoMore, RoutinesGiveHeap};
+ghost use Rattle.lir_core.specs.Routines.{allocates, ends_program, reads_byte, writes_byte};
 ghost use Rattle.lir_core.specs.Small.{program_with, adds_down, calls_a_double, calls_itself, passes_the_greatest};
 ghost use Rattle.lir_core.specs.Small.{reads_the_unwritten, raises_in_a_callee, finally_and_catch, leaves_a_try};
 ghost use Rattle.lir_core.specs.Small.{catch_and_catch, clears_what_it_gave, moves_two_words, one_finally};
@@ -51,6 +53,9 @@ pub fn sound_bodies()
     // each operation is sound
     ensures operation { (body : LirBody) (place : ℕ) (op : LirOp) → is_sound body ≡ true →
         slice_get body.ops place ≡ Some op → is_sound_op body op ≡ true }
+    // and its numbers have 32 bits
+    ensures short { (body : LirBody) (place : ℕ) (op : LirOp) → is_sound body ≡ true →
+        slice_get body.ops place ≡ Some op → has_short_numbers op ≡ true }
     // the words of two slots of a frame below all addresses don't meet
     ensures apart { (body : LirBody) (address a b p q : ℕ) → address + body.frame ≤ addresses → a ≢ b →
         place_in_frame body address (word a) ≡ Some p → place_in_frame body address (word b) ≡ Some q →
@@ -151,4 +156,22 @@ pub fn laid_out_programs()
     ensures frames { (program : WordProgram) (item : ℕ) (given : List Given) (input : List ℕ) (n : ℕ)
         (state : WordState) (streams : Streams) → IsLaidOut program →
         word_run program item given input n ≡ Running state streams → FramesFit program state.frames }
+{}
+
+/// What a program has in memory.
+pub fn owned_memory()
+    // nothing but the image, what it uses of the heap, and its frames' slots, where its routines give it nothing else
+    ensures owned { (program : WordProgram) (item : ℕ) (given : List Given) (input : List ℕ) (n : ℕ)
+        (state : WordState) (streams : Streams) → RoutinesGiveHeap program →
+        word_run program item given input n ≡ Running state streams →
+        OwnsNoMore program state.frames state.memory state.heap_used }
+    // as those of the runtime do: one that allocates,
+    ensures allocating { (program : WordProgram) (bound : ℕ) →
+        GivesHeap program (allocates program.heap_begin bound) }
+    // one that writes a byte,
+    ensures writing { (program : WordProgram) → GivesHeap program writes_byte }
+    // one that reads a byte,
+    ensures reading { (program : WordProgram) → GivesHeap program reads_byte }
+    // and one that ends the program
+    ensures ending { (program : WordProgram) → GivesHeap program ends_program }
 {}

@@ -20,8 +20,8 @@ pub(crate) struct Piece {
 }
 
 /// Whether labels, slots and the places of `marks` are in range, routines get no more words than they may take, offsets
-/// and counts of bytes have 32 bits, and each slot of `vars` stands there once and is read and written as one whole word
-/// only.
+/// and counts of bytes have 32 bits, and each slot of `vars` stands there once and is read and written as one whole
+/// word only.
 pub fn check(body: &LirBody) -> bool
     ensures sound { result ≡ is_sound body.now }
 {

@@ -1,7 +1,7 @@
 -- From a simulation of single steps to whole runs, where each step has a bound of its own; and two such passes one
 -- after the other.
 use Rattle.std.proofs.Common.{◌≡◌, ◌∙◌, ◌⊎◌, inl, inr, ℕ, zero, suc, ◌+◌, ◌-◌, ◌<◌, ◌≤◌, refl, sym, ap, arith, subst}
-use Rattle.num_core.specs.Run.{KeepsStep, Run, Streams, Through, after, one_more}
+use Rattle.num_core.specs.Run.{KeepsStep, Run, Streams, Through, after}
 use Rattle.num_core.specs.Simulation.{IsBetween, KeepsStepBy, SimulatesBy, StepsBy, sum_from}
 use Rattle.num_core.proofs.Runs.{after-add, rises}
 
@@ -24,7 +24,8 @@ tracked step step' R most Q simulates a b related (suc n) =
 tracked-suc : {State Cause State' Cause' : Type 0} (step : State → Streams → Run State Cause)
     (step' : State' → Streams → Run State' Cause') (R : Run State Cause → Run State' Cause' → Type 0)
     (most : Run State Cause → ℕ) (Q : Run State Cause → Run State' Cause' → Type 0)
-    (simulates : SimulatesBy step step' R most Q) (a : Run State Cause) (b : Run State' Cause') (related : R a b) (n : ℕ)
+    (simulates : SimulatesBy step step' R most Q) (a : Run State Cause) (b : Run State' Cause') (related : R a b)
+    (n : ℕ)
     → (k : ℕ) × (0 < k) × (k ≤ most (after step n a))
     × ((tracked step step' R most Q simulates a b related (suc n)).0
     ≡ k + (tracked step step' R most Q simulates a b related n).0)

@@ -60,7 +60,8 @@ less_by I4 r x y a b registers f g e e' =
     (ap (λ n. one_if (int_lt (signed_value n) (signed_value (slice_index registers y)))) e
     ∙ ap (λ n. one_if (int_lt (signed_value (word_of a)) (signed_value n))) e' ∙ ap one_if (tested Less I4 a b f g))
 less_by U4 r x y a b registers f g e e' =
-    by_registers (Ins.Sltu r x y) r (λ rs. one_if (nat_lt (slice_index rs x) (slice_index rs y))) (λ m s. refl) registers
+    by_registers (Ins.Sltu r x y) r (λ rs. one_if (nat_lt (slice_index rs x) (slice_index rs y))) (λ m s. refl)
+    registers
     (one_if (holds_of Less U4 a b))
     (ap (λ n. one_if (nat_lt n (slice_index registers y))) e ∙ ap (λ n. one_if (nat_lt (word_of a) n)) e'
     ∙ ap one_if (tested Less U4 a b f g))
@@ -71,7 +72,8 @@ less_by I8 r x y a b registers f g e e' =
     (ap (λ n. one_if (int_lt (signed_value n) (signed_value (slice_index registers y)))) e
     ∙ ap (λ n. one_if (int_lt (signed_value (word_of a)) (signed_value n))) e' ∙ ap one_if (tested Less I8 a b f g))
 less_by U8 r x y a b registers f g e e' =
-    by_registers (Ins.Sltu r x y) r (λ rs. one_if (nat_lt (slice_index rs x) (slice_index rs y))) (λ m s. refl) registers
+    by_registers (Ins.Sltu r x y) r (λ rs. one_if (nat_lt (slice_index rs x) (slice_index rs y))) (λ m s. refl)
+    registers
     (one_if (holds_of Less U8 a b))
     (ap (λ n. one_if (nat_lt n (slice_index registers y))) e ∙ ap (λ n. one_if (nat_lt (word_of a) n)) e'
     ∙ ap one_if (tested Less U8 a b f g))

@@ -66,13 +66,15 @@ sign_56 p =
     let is : n ≡ p % 2 ^ 8 * 2 ^ 56 = omega arith in
     elim (signed_cases_8 (p % 2 ^ 8) (omega arith)) [
       | inl low ↦ elim (signed_cases_64 n (omega arith)) [
-        | inl q ↦ ap (λ z. int_shr z 56) q.1 ∙ (let e : pos (n / 2 ^ 56) ≡ pos (p % 2 ^ 8) = ap pos (omega (arith, is)) in e) ∙ sym low.1
+        | inl q ↦ ap (λ z. int_shr z 56) q.1
+            ∙ (let e : pos (n / 2 ^ 56) ≡ pos (p % 2 ^ 8) = ap pos (omega (arith, is)) in e) ∙ sym low.1
         | inr q ↦ absurd (omega (arith, is, low.0, q.0))
       ]
       | inr high ↦ elim (signed_cases_64 n (omega arith)) [
         | inl q ↦ absurd (omega (arith, is, high.0, q.0))
         | inr q ↦ ap (λ z. int_shr z 56) q.1
-            ∙ (let e : negsuc ((2 ^ 64 - suc n) / 2 ^ 56) ≡ negsuc (2 ^ 8 - suc (p % 2 ^ 8)) = ap negsuc (omega (arith, is)) in e)
+            ∙ (let e : negsuc ((2 ^ 64 - suc n) / 2 ^ 56) ≡ negsuc (2 ^ 8 - suc (p % 2 ^ 8)) =
+            ap negsuc (omega (arith, is)) in e)
             ∙ sym high.1
       ]
     ]
@@ -83,13 +85,15 @@ sign_48 p =
     let is : n ≡ p % 2 ^ 16 * 2 ^ 48 = omega arith in
     elim (signed_cases_16 (p % 2 ^ 16) (omega arith)) [
       | inl low ↦ elim (signed_cases_64 n (omega arith)) [
-        | inl q ↦ ap (λ z. int_shr z 48) q.1 ∙ (let e : pos (n / 2 ^ 48) ≡ pos (p % 2 ^ 16) = ap pos (omega (arith, is)) in e) ∙ sym low.1
+        | inl q ↦ ap (λ z. int_shr z 48) q.1
+            ∙ (let e : pos (n / 2 ^ 48) ≡ pos (p % 2 ^ 16) = ap pos (omega (arith, is)) in e) ∙ sym low.1
         | inr q ↦ absurd (omega (arith, is, low.0, q.0))
       ]
       | inr high ↦ elim (signed_cases_64 n (omega arith)) [
         | inl q ↦ absurd (omega (arith, is, high.0, q.0))
         | inr q ↦ ap (λ z. int_shr z 48) q.1
-            ∙ (let e : negsuc ((2 ^ 64 - suc n) / 2 ^ 48) ≡ negsuc (2 ^ 16 - suc (p % 2 ^ 16)) = ap negsuc (omega (arith, is)) in e)
+            ∙ (let e : negsuc ((2 ^ 64 - suc n) / 2 ^ 48) ≡ negsuc (2 ^ 16 - suc (p % 2 ^ 16)) =
+            ap negsuc (omega (arith, is)) in e)
             ∙ sym high.1
       ]
     ]
@@ -100,13 +104,15 @@ sign_32 p =
     let is : n ≡ p % 2 ^ 32 * 2 ^ 32 = omega arith in
     elim (signed_cases_32 (p % 2 ^ 32) (omega arith)) [
       | inl low ↦ elim (signed_cases_64 n (omega arith)) [
-        | inl q ↦ ap (λ z. int_shr z 32) q.1 ∙ (let e : pos (n / 2 ^ 32) ≡ pos (p % 2 ^ 32) = ap pos (omega (arith, is)) in e) ∙ sym low.1
+        | inl q ↦ ap (λ z. int_shr z 32) q.1
+            ∙ (let e : pos (n / 2 ^ 32) ≡ pos (p % 2 ^ 32) = ap pos (omega (arith, is)) in e) ∙ sym low.1
         | inr q ↦ absurd (omega (arith, is, low.0, q.0))
       ]
       | inr high ↦ elim (signed_cases_64 n (omega arith)) [
         | inl q ↦ absurd (omega (arith, is, high.0, q.0))
         | inr q ↦ ap (λ z. int_shr z 32) q.1
-            ∙ (let e : negsuc ((2 ^ 64 - suc n) / 2 ^ 32) ≡ negsuc (2 ^ 32 - suc (p % 2 ^ 32)) = ap negsuc (omega (arith, is)) in e)
+            ∙ (let e : negsuc ((2 ^ 64 - suc n) / 2 ^ 32) ≡ negsuc (2 ^ 32 - suc (p % 2 ^ 32)) =
+            ap negsuc (omega (arith, is)) in e)
             ∙ sym high.1
       ]
     ]
@@ -156,7 +162,8 @@ extends_zeros others r x p value registers has h h' e is fits =
     let between : ℕ = low_bits 64 (pos (p * 2 ^ others)) in
     let middle : List ℕ = with_register registers r between in
     leads_twice (Ins.Slli r x others) (Ins.Srli r r others) registers r between value has h h'
-    (by_registers (Ins.Slli r x others) r (λ rs. low_bits 64 (pos (slice_index rs x * 2 ^ others))) (λ m s. refl) registers
+    (by_registers (Ins.Slli r x others) r (λ rs. low_bits 64 (pos (slice_index rs x * 2 ^ others))) (λ m s. refl)
+    registers
     between (ap (λ n. low_bits 64 (pos (n * 2 ^ others))) e))
     (low_below (pos (p * 2 ^ others)))
     (by_registers (Ins.Srli r r others) r (λ rs. slice_index rs r / 2 ^ others) (λ m s. refl) middle value
@@ -169,7 +176,8 @@ extends_signed others r x p z registers has h h' e is =
     let between : ℕ = low_bits 64 (pos (p * 2 ^ others)) in
     let middle : List ℕ = with_register registers r between in
     leads_twice (Ins.Slli r x others) (Ins.Srai r r others) registers r between (low_bits 64 z) has h h'
-    (by_registers (Ins.Slli r x others) r (λ rs. low_bits 64 (pos (slice_index rs x * 2 ^ others))) (λ m s. refl) registers
+    (by_registers (Ins.Slli r x others) r (λ rs. low_bits 64 (pos (slice_index rs x * 2 ^ others))) (λ m s. refl)
+    registers
     between (ap (λ n. low_bits 64 (pos (n * 2 ^ others))) e))
     (low_below (pos (p * 2 ^ others)))
     (by_registers (Ins.Srai r r others) r (λ rs. low_bits 64 (int_shr (signed_value (slice_index rs r)) others))

@@ -13,7 +13,8 @@ use Rattle.num_core.specs.declared.kind.Kind.{Kind}
 use Rattle.num_core.specs.declared.kind.Kind.TheVariants.{I4, U4, I8, U8}
 use Rattle.rv_isa.specs.declared.ins.Ins.{Ins}
 use Rattle.rv_step.specs.Machine.{all_ones, low_word, quotient, remainder, signed_value, signed_word_value}
-use Rattle.rv_step.specs.Machine.{unsigned_quotient, unsigned_remainder, unsigned_word_quotient, unsigned_word_remainder}
+use Rattle.rv_step.specs.Machine.{unsigned_quotient, unsigned_remainder, unsigned_word_quotient}
+use Rattle.rv_step.specs.Machine.{unsigned_word_remainder}
 use Rattle.rv_step.specs.Machine.{with_register, word_quotient, word_remainder, word_value}
 use Rattle.lir_core.specs.Values.{divided, is_least_by_minus_one, word_of}
 use Rattle.lir_core.specs.declared.op.DivisionPart.{DivisionPart}
@@ -23,7 +24,8 @@ use Rattle.rv_lines.specs.Leading.{AnswersOr, AreRegisters, GivesWord, IsKept, K
 use Rattle.rv_lines.specs.declared.line.Condition.TheVariants.{Equal}
 use Rattle.rv_lines.specs.declared.line.Line.{Line}
 use Rattle.rv_lines.specs.declared.line.Line.TheVariants.{Single, Branch}
-use Rattle.rv_lines.proofs.Leading.{EndsOr, answers_or, branches_unless, by_one, by_two, ends_over, gives_first, got, has_word, kept}
+use Rattle.rv_lines.proofs.Leading.{EndsOr, answers_or, branches_unless, by_one, by_two, ends_over, gives_first, got}
+use Rattle.rv_lines.proofs.Leading.{has_word, kept}
 use Rattle.rv_lines.proofs.Leading.{keeps_28, keeps_29, keeps_all, passes_first}
 use Rattle.rv_lines.proofs.Tests.{equal, same_test, signed_of_word}
 use Rattle.rv_lines.proofs.Values.{bits_of, low_below, low_of_wrapped, signed_low_32, wide}
@@ -184,7 +186,8 @@ gives_part Remainder U8 r x y a b registers f g e e' some =
 -- ---- the lines
 
 -- the division is the last line
-divides_last : (part : DivisionPart) (kind : Kind) (r x y label : ℕ) (a b : ℤ) (origin registers : List ℕ) → 0 < r → r < 32
+divides_last : (part : DivisionPart) (kind : Kind) (r x y label : ℕ) (a b : ℤ) (origin registers : List ℕ) → 0 < r
+    → r < 32
     → IsOfKind kind a → IsOfKind kind b → AreRegisters registers → KeepsAll origin registers
     → slice_index registers x ≡ word_of a → slice_index registers y ≡ word_of b → int_eq b (pos 0) ≡ false
     → EndsOr (Single (divides_by part kind r x y) ∷ []) origin registers r label
@@ -223,7 +226,8 @@ least_first w rest x y rd overflow a b o origin registers has same kx ky f g h a
     let has2 : AreRegisters r2 = has_word r1 29 v v_fits has1 in
     let has3 : AreRegisters r3 = has_word r2 28 t t_fits has2 in
     let last : List Line = Branch Equal 28 0 overflow ∷ rest in
-    gives_first (Ins.Xor 28 28 x) (Single (Ins.Addi 29 y (pos 1)) ∷ Single (Ins.Or 28 28 29) ∷ last) origin registers 28 u
+    gives_first (Ins.Xor 28 28 x) (Single (Ins.Addi 29 y (pos 1)) ∷ Single (Ins.Or 28 28 29) ∷ last) origin registers 28
+    u
     rd overflow o
     (by_two (Ins.Xor 28 28 x) 28 28 x bit_xor (λ m s. refl) registers l (word_of a) u at_28 e refl) u_fits
     (gives_first (Ins.Addi 29 y (pos 1)) (Single (Ins.Or 28 28 29) ∷ last) origin r1 29 v rd overflow o
@@ -290,14 +294,16 @@ branch_last part kind r x y overflow a b t origin registers h h' kx ky f g has s
     branches_unless Equal 28 0 overflow (Single (divides_by part kind r x y) ∷ []) origin registers r
     (word_of (divided part kind a b)) (not t)
     (ap (λ i. slice_index registers 28 == i) has.x0 ∙ test ∙ twice_not t) has same
-    (λ false_is. divides_last part kind r x y overflow a b origin registers h h' f g has same (same x kx ∙ e) (same y ky ∙ e')
+    (λ false_is. divides_last part kind r x y overflow a b origin registers h h' f g has same (same x kx ∙ e)
+    (same y ky ∙ e')
     some)
 
 -- what comes behind the test for 0
 rest_of : (part : DivisionPart) (kind : Kind) (r x y overflow : ℕ) (a b : ℤ) (registers : List ℕ) → 0 < r → r < 32
     → IsKept x → IsKept y → IsOfKind kind a → IsOfKind kind b → AreRegisters registers
     → slice_index registers x ≡ word_of a → slice_index registers y ≡ word_of b → int_eq b (pos 0) ≡ false
-    → EndsOr (refuses_least kind x y overflow ++ Single (divides_by part kind r x y) ∷ []) registers registers r overflow
+    → EndsOr (refuses_least kind x y overflow ++ Single (divides_by part kind r x y) ∷ []) registers registers r
+    overflow
     (cond (not (is_least_by_minus_one kind a b)) (Some (word_of (divided part kind a b))) None)
 rest_of part I4 r x y overflow a b registers h h' kx ky f g has e e' some =
     let last : List Line = Single (divides_by part I4 r x y) ∷ [] in
@@ -306,7 +312,8 @@ rest_of part I4 r x y overflow a b registers h h' kx ky f g has e e' some =
     ∷ Branch Equal 28 0 overflow ∷ last) r overflow o registers registers has (keeps_all registers)
     (λ new has' same keeps at_28. least_first w32 last x y r overflow a b o registers new has' same kx ky (wide I4 a f)
     (wide I4 b g) (record { sfits = omega arith }) at_28 (keeps x kx ∙ e) (keeps y ky ∙ e')
-    (λ new' has'' same' test. branch_last part I4 r x y overflow a b (is_least_by_minus_one I4 a b) registers new' h h' kx
+    (λ new' has'' same' test. branch_last part I4 r x y overflow a b (is_least_by_minus_one I4 a b) registers new' h h'
+    kx
     ky f g has'' same' e e' some test))
 rest_of part U4 r x y overflow a b registers h h' kx ky f g has e e' some =
     divides_last part U4 r x y overflow a b registers registers h h' f g has (keeps_all registers) e e' some
@@ -317,7 +324,8 @@ rest_of part I8 r x y overflow a b registers h h' kx ky f g has e e' some =
     ∷ Branch Equal 28 0 overflow ∷ last) r overflow o registers registers has (keeps_all registers)
     (λ new has' same keeps at_28. least_first w64 last x y r overflow a b o registers new has' same kx ky f g
     (record { sfits = omega arith }) at_28 (keeps x kx ∙ e) (keeps y ky ∙ e')
-    (λ new' has'' same' test. branch_last part I8 r x y overflow a b (is_least_by_minus_one I8 a b) registers new' h h' kx
+    (λ new' has'' same' test. branch_last part I8 r x y overflow a b (is_least_by_minus_one I8 a b) registers new' h h'
+    kx
     ky f g has'' same' e e' some test))
 rest_of part U8 r x y overflow a b registers h h' kx ky f g has e e' some =
     divides_last part U8 r x y overflow a b registers registers h h' f g has (keeps_all registers) e e' some

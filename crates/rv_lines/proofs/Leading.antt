@@ -53,14 +53,17 @@ by_registers ins rd word does registers value is =
 pub by_one : (ins : Ins) (rd x : ℕ) (word : ℕ → ℕ)
     → ((m : MachineState) (streams : Streams)
     → effect ins m streams ≡ Running (given rd (word (slice_index m.registers x)) m) streams)
-    → (registers : List ℕ) (p value : ℕ) → slice_index registers x ≡ p → word p ≡ value → GivesWord ins registers rd value
+    → (registers : List ℕ) (p value : ℕ) → slice_index registers x ≡ p → word p ≡ value
+    → GivesWord ins registers rd value
 by_one ins rd x word does registers p value e is =
     by_registers ins rd (λ rs. word (slice_index rs x)) does registers value (ap word e ∙ is)
 
 pub by_two : (ins : Ins) (rd x y : ℕ) (word : ℕ → ℕ → ℕ)
     → ((m : MachineState) (streams : Streams)
-    → effect ins m streams ≡ Running (given rd (word (slice_index m.registers x) (slice_index m.registers y)) m) streams)
-    → (registers : List ℕ) (p q value : ℕ) → slice_index registers x ≡ p → slice_index registers y ≡ q → word p q ≡ value
+    → effect ins m streams ≡ Running (given rd (word (slice_index m.registers x) (slice_index m.registers y)) m)
+    streams)
+    → (registers : List ℕ) (p q value : ℕ) → slice_index registers x ≡ p → slice_index registers y ≡ q → word p q
+    ≡ value
     → GivesWord ins registers rd value
 by_two ins rd x y word does registers p q value e f is =
     by_registers ins rd (λ rs. word (slice_index rs x) (slice_index rs y)) does registers value
@@ -170,21 +173,28 @@ passes_first condition x y to lines origin registers rd label (Some value) false
 }
 
 -- the end
-pub ends_over : (origin registers : List ℕ) (rd label value : ℕ) → AreRegisters registers → slice_index registers rd ≡ value
+pub ends_over : (origin registers : List ℕ) (rd label value : ℕ) → AreRegisters registers
+    → slice_index registers rd ≡ value
     → ((r : ℕ) → r ≢ rd → IsKept r → slice_index registers r ≡ slice_index origin r)
     → EndsOr [] origin registers rd label (Some value)
 ends_over origin registers rd label value has is others =
     record { new = registers; leads = Over registers; registers_then = has; result = is; others = others }
 
 -- a branch that is taken unless a test holds
-pub branches_unless : (condition : Condition) (x y label : ℕ) (lines : List Line) (origin registers : List ℕ) (rd value : ℕ)
+pub branches_unless : (condition : Condition) (x y label : ℕ) (lines : List Line) (origin registers : List ℕ)
+    (rd value : ℕ)
     (t : Bool) → holds condition (slice_index registers x) (slice_index registers y) ≡ not t → AreRegisters registers
     → KeepsAll origin registers → (t ≡ true → EndsOr lines origin registers rd label (Some value))
     → EndsOr (Branch condition x y label ∷ lines) origin registers rd label (cond t (Some value) None)
 branches_unless condition x y label lines origin registers rd value true false_is has others rest =
     passes_first condition x y label lines origin registers rd label (Some value) false_is (rest refl)
 branches_unless condition x y label lines origin registers rd value false true_is has others rest =
-    record { new = registers; leads = Takes condition x y label lines registers true_is; registers_then = has; others = others }
+    record {
+      new = registers;
+      leads = Takes condition x y label lines registers true_is;
+      registers_then = has;
+      others = others;
+    }
 
 -- where the branch is the last line, and the word is in x7 by then
 pub ends_unless : (condition : Condition) (x y label : ℕ) (origin registers : List ℕ) (value : ℕ) (t : Bool)

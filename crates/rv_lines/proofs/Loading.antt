@@ -1,11 +1,8 @@
 -- What the instructions that read numbers of each type from memory give, and what those that write them write.
 use Rattle.std.proofs.Common.{◌≡◌, ◌∙◌, ℕ, ◌%◌, ◌^◌, ◌<◌, ℤ, pos, refl, ap, sym, arith}
-use Rattle.std.proofs.lemmas.Int.{int_wrap_fits, SFits-int_wrap}
-use Rattle.std.specs.Int.{Width, cast_signed, int_wrap, w8, w16, w32, w64}
+use Rattle.std.specs.Int.{cast_signed, int_wrap, w8, w16, w32, w64}
 use Rattle.num_core.specs.Bits.{low_bits}
-use Rattle.num_core.specs.Integers.{held}
 use Rattle.num_core.specs.Run.{Running, Streams}
-use Rattle.num_core.specs.declared.kind.Kind.TheVariants.{U4}
 use Rattle.num_core.specs.declared.kind.Narrow.{Narrow}
 use Rattle.num_core.specs.declared.kind.Narrow.TheVariants as narrow
 use Rattle.num_core.proofs.WrapLaws.{int_wrap-pos, int_wrap-twice}

@@ -50,7 +50,8 @@ multiplied_i4 x y label a b registers has kx ky f g e e' =
     let fits : FitsSigned w64 (a *ℤ b) =
     fits_signed_mul w64 a b (2 ^ 31) (2 ^ 31) (great_32 a f) (great_32 b g) (omega arith) in
     refused_32 (Ins.Mul 28 x y) (Ins.Mulw 7 x y) label (a *ℤ b) registers has fits
-    (by_two (Ins.Mul 28 x y) 28 x y (λ m n. low_bits 64 (pos m *ℤ pos n)) (λ m s. refl) registers (word_of a) (word_of b)
+    (by_two (Ins.Mul 28 x y) 28 x y (λ m n. low_bits 64 (pos m *ℤ pos n)) (λ m s. refl) registers (word_of a)
+    (word_of b)
     p e e' (product_of_words a b))
     (by_two (Ins.Mulw 7 x y) 7 x y (λ m n. low_word (pos m *ℤ pos n)) (λ m s. refl) (with_register registers 28 p)
     (word_of a) (word_of b) (word_of (int_wrap w32 (a *ℤ b)))
@@ -295,7 +296,8 @@ multiplied_u8 x y label a b registers has kx ky f g e e' =
     (gives_first (Ins.Mulhu 28 x y) l1 registers registers 28 high 7 label _
     (by_two (Ins.Mulhu 28 x y) 28 x y (λ i j. upper_bits (pos i *ℤ pos j)) (λ m s. refl) registers
     (word_of a) (word_of b) high e e'
-    (ap (λ i. upper_bits (pos i *ℤ pos (word_of b))) (bits_of a f) ∙ ap (λ i. upper_bits (pos m *ℤ pos i)) (bits_of b g)))
+    (ap (λ i. upper_bits (pos i *ℤ pos (word_of b))) (bits_of a f)
+    ∙ ap (λ i. upper_bits (pos m *ℤ pos i)) (bits_of b g)))
     (upper_fits z)
     (gives_first (Ins.Mul 7 x y) last registers r1 7 p 7 label _
     (by_two (Ins.Mul 7 x y) 7 x y (λ i j. low_bits 64 (pos i *ℤ pos j)) (λ m s. refl) r1 (word_of a) (word_of b) p

@@ -1,6 +1,7 @@
 -- Conversions that are refused out of range.
 use Rattle.std.proofs.Common.{◌≡◌, ◌∙◌, inl, inr, ℕ, suc, ◌-◌, ◌*◌, ◌/◌, ◌%◌, ◌^◌, ◌<◌, ◌≤◌, ℤ, pos, negsuc}
-use Rattle.std.proofs.Common.{◌+ℤ◌, Bool, true, false, not, cond, ◌==◌, nat_le, nat_lt, int_lt, FitsSigned, refl, ap, sym}
+use Rattle.std.proofs.Common.{◌+ℤ◌, Bool, true, false, not, cond, ◌==◌, nat_le, nat_lt, int_lt, FitsSigned, refl, ap}
+use Rattle.std.proofs.Common.{sym}
 use Rattle.std.proofs.Common.{arith, unsigned_abs, List, [], ◌∷◌, ◌++◌, slice_index, Some, None}
 use Rattle.std.proofs.lemmas.Bool.{false≢true}
 use Rattle.std.proofs.lemmas.Bool.Decides.{nat_tests}
@@ -34,19 +35,22 @@ use Rattle.rv_lines.proofs.Multiplying.{eq_no, eq_yes, low_word_left}
 use Rattle.rv_lines.proofs.Summing.{either_way, lt_false, lt_true, of_checked, unsigned_64}
 use Rattle.rv_lines.proofs.Tests.{less}
 use Rattle.rv_lines.proofs.Values.{bits_of, low_below, low_of_wrapped, number_32, number_64, wide}
-use Rattle.rv_lines.proofs.Words.{eq_turned, in_unsigned, is_equal, is_left, low_32, low_small, not_negative, unsigned_32}
+use Rattle.rv_lines.proofs.Words.{eq_turned, in_unsigned, is_equal, is_left, low_32, low_small, not_negative}
+use Rattle.rv_lines.proofs.Words.{unsigned_32}
 
 -- ---- the lines
 
 -- the word itself, in x7
-keeps_last : (x label : ℕ) (a v : ℤ) (origin registers : List ℕ) → AreRegisters registers → ((r : ℕ) → IsKept r → slice_index registers r ≡ slice_index origin r)
+keeps_last : (x label : ℕ) (a v : ℤ) (origin registers : List ℕ) → AreRegisters registers
+    → ((r : ℕ) → IsKept r → slice_index registers r ≡ slice_index origin r)
     → slice_index registers x ≡ word_of a → word_of a ≡ word_of v
     → EndsOr (keeps 7 x) origin registers 7 label (Some (word_of v))
 keeps_last x label a v origin registers has same e is =
     let none : low_bits 64 (pos (word_of a) +ℤ pos 0) ≡ word_of a = plus_none (word_of a) (low_below a) in
     let new : List ℕ = with_register registers 7 (word_of v) in
     gives_first (Ins.Addi 7 x (pos 0)) [] origin registers 7 (word_of v) 7 label (Some (word_of v))
-    (by_one (Ins.Addi 7 x (pos 0)) 7 x (λ i. low_bits 64 (pos i +ℤ pos 0)) (λ m s. refl) registers (word_of a) (word_of v)
+    (by_one (Ins.Addi 7 x (pos 0)) 7 x (λ i. low_bits 64 (pos i +ℤ pos 0)) (λ m s. refl) registers (word_of a)
+    (word_of v)
     e (none ∙ is)) (low_below v)
     (ends_over origin new 7 label (word_of v) (has_word registers 7 (word_of v) (low_below v) has)
     (got registers 7 (word_of v) has (omega arith) (omega arith))

@@ -19,7 +19,8 @@ use Rattle.lir_core.specs.declared.op.UnaryOperation.{UnaryOperation}
 use Rattle.lir_core.specs.declared.op.UnaryOperation.TheVariants.{Negate, Complement}
 use Rattle.rv_lines.specs.Computing.{changes, shifts}
 use Rattle.rv_lines.proofs.Tests.{signed_of_word}
-use Rattle.rv_lines.proofs.Values.{bits_of, difference_32, difference_64, in_register_32, in_register_64, left_32, left_64}
+use Rattle.rv_lines.proofs.Values.{bits_of, difference_32, difference_64, in_register_32, in_register_64, left_32}
+use Rattle.rv_lines.proofs.Values.{left_64}
 use Rattle.rv_lines.proofs.Values.{low_below, low_of_wrapped, number_32, number_64, signed_low_32}
 use Rattle.rv_lines.proofs.Words.{flipped, low_32, low_32_signed, low_small}
 

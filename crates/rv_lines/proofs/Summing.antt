@@ -1,6 +1,7 @@
 -- Sums and differences that are refused out of range.
 use Rattle.std.proofs.Common.{◌≡◌, ◌∙◌, ◌⊎◌, inl, inr, ℕ, suc, ◌+◌, ◌-◌, ◌*◌, ◌%◌, ◌^◌, ◌<◌, ◌≤◌, ℤ, pos, negsuc}
-use Rattle.std.proofs.Common.{◌+ℤ◌, ◌-ℤ◌, ◌<ℤ◌, ◌≤ℤ◌, Bool, true, false, not, cond, ◌==◌, nat_le, nat_lt, int_lt, FitsSigned, refl, ap}
+use Rattle.std.proofs.Common.{◌+ℤ◌, ◌-ℤ◌, ◌<ℤ◌, ◌≤ℤ◌, Bool, true, false, not, cond, ◌==◌, nat_le, nat_lt, int_lt}
+use Rattle.std.proofs.Common.{FitsSigned, refl, ap}
 use Rattle.std.proofs.Common.{sym, subst, arith, List, [], ◌∷◌, slice_index, Some, None}
 use Rattle.std.proofs.lemmas.Bool.Decides.{nat_tests}
 use Rattle.std.proofs.lemmas.Int.{ints, int_wrap_fits, SFits-int_wrap}
@@ -26,7 +27,8 @@ use Rattle.rv_lines.proofs.Leading.{EndsOr, answers_or, by_one, by_two, ends_unl
 use Rattle.rv_lines.proofs.Leading.{keeps_28, keeps_29, keeps_7, keeps_all}
 use Rattle.rv_lines.proofs.Comparing.{one_fits}
 use Rattle.rv_lines.proofs.Tests.{less, less_unsigned_32, signed_of_word}
-use Rattle.rv_lines.proofs.Values.{bits_of, difference_32, difference_64, low_below, low_of_wrapped, number_32, number_64}
+use Rattle.rv_lines.proofs.Values.{bits_of, difference_32, difference_64, low_below, low_of_wrapped, number_32}
+use Rattle.rv_lines.proofs.Values.{number_64}
 use Rattle.rv_lines.proofs.Values.{sum_32, sum_64}
 use Rattle.rv_lines.proofs.Words.{in_unsigned, is_left, unsigned_32}
 
@@ -90,7 +92,8 @@ added_i4 : (x y label : ℕ) (a b : ℤ) (registers : List ℕ) → AreRegisters
 added_i4 x y label a b registers has kx ky f g e e' =
     let p : ℕ = word_of (a +ℤ b) in
     refused_32 (Ins.Add 28 x y) (Ins.Addw 7 x y) label (a +ℤ b) registers has (sum_fits a b f g)
-    (by_two (Ins.Add 28 x y) 28 x y (λ m n. low_bits 64 (pos m +ℤ pos n)) (λ m s. refl) registers (word_of a) (word_of b)
+    (by_two (Ins.Add 28 x y) 28 x y (λ m n. low_bits 64 (pos m +ℤ pos n)) (λ m s. refl) registers (word_of a)
+    (word_of b)
     p e e' (sum_of_words a b))
     (by_two (Ins.Addw 7 x y) 7 x y (λ m n. low_word (pos m +ℤ pos n)) (λ m s. refl) (with_register registers 28 p)
     (word_of a) (word_of b) (word_of (int_wrap w32 (a +ℤ b)))
@@ -103,7 +106,8 @@ subtracted_i4 : (x y label : ℕ) (a b : ℤ) (registers : List ℕ) → AreRegi
 subtracted_i4 x y label a b registers has kx ky f g e e' =
     let p : ℕ = word_of (a -ℤ b) in
     refused_32 (Ins.Sub 28 x y) (Ins.Subw 7 x y) label (a -ℤ b) registers has (difference_fits a b f g)
-    (by_two (Ins.Sub 28 x y) 28 x y (λ m n. low_bits 64 (pos m -ℤ pos n)) (λ m s. refl) registers (word_of a) (word_of b)
+    (by_two (Ins.Sub 28 x y) 28 x y (λ m n. low_bits 64 (pos m -ℤ pos n)) (λ m s. refl) registers (word_of a)
+    (word_of b)
     p e e' (difference_of_words a b))
     (by_two (Ins.Subw 7 x y) 7 x y (λ m n. low_word (pos m -ℤ pos n)) (λ m s. refl) (with_register registers 28 p)
     (word_of a) (word_of b) (word_of (int_wrap w32 (a -ℤ b)))
@@ -134,18 +138,21 @@ borrowed w m n h = elim (either_way m n) [
       lt_true m n less ∙ sym (ap (λ z. not (lies_in false w z)) e)
   | inr more ↦
       let e : pos m -ℤ pos n ≡ pos (m - n) = omega (arith, ints, more) in
-      lt_false m n more ∙ sym (ap (λ z. not (lies_in false w z)) e ∙ ap not (lies_from_below w (m - n) (omega (arith, h))))
+      lt_false m n more ∙ sym (ap (λ z. not (lies_in false w z)) e
+      ∙ ap not (lies_from_below w (m - n) (omega (arith, h))))
 ]
 
 -- the bits of what is left of a number without a sign
 unsigned_left_32 : (n : ℕ) → cast_unsigned w32 (int_wrap w32 (pos n)) ≡ n % 2 ^ 32
-unsigned_left_32 n = let e : pos (cast_unsigned w32 (int_wrap w32 (pos n))) ≡ pos (n % 2 ^ 32) = unsigned-int_wrap w32 (pos n) in
+unsigned_left_32 n =
+    let e : pos (cast_unsigned w32 (int_wrap w32 (pos n))) ≡ pos (n % 2 ^ 32) = unsigned-int_wrap w32 (pos n) in
     cc
 
 -- one instruction, and a branch where a first word is less than another
 refused_less : (ins : Ins) (u v label value : ℕ) (t : Bool) (z : ℤ) (registers : List ℕ) → AreRegisters registers
     → GivesWord ins registers 7 (word_of z)
-    → nat_lt (slice_index (with_register registers 7 (word_of z)) u) (slice_index (with_register registers 7 (word_of z)) v)
+    → nat_lt (slice_index (with_register registers 7 (word_of z)) u)
+    (slice_index (with_register registers 7 (word_of z)) v)
     ≡ not t
     → AnswersOr (Single ins ∷ if_less u v label ∷ []) registers 7 label (option_map word_of (cond t (Some z) None))
 refused_less ins u v label value t z registers has gives test =
@@ -191,7 +198,8 @@ subtracted_u4 x y label a b registers has kx ky f g e e' =
     kept registers 7 y (word_of s) ky.not_result ∙ e' in
     refused_less (Ins.Subw 7 x y) x y label 0 (in_range U4 z) s registers has
     (by_two (Ins.Subw 7 x y) 7 x y (λ i j. low_word (pos i -ℤ pos j)) (λ m s. refl) registers (word_of a) (word_of b)
-    (word_of s) e e' (difference_32 (word_of a) (word_of b) a b (pos m) (pos n) refl refl (number_32 a f) (number_32 b g)))
+    (word_of s) e e' (difference_32 (word_of a) (word_of b) a b (pos m) (pos n) refl refl (number_32 a f)
+    (number_32 b g)))
     (ap (λ i. nat_lt i (slice_index (with_register registers 7 (word_of s)) y)) at_x ∙ ap (nat_lt (word_of a)) at_y
     ∙ less_unsigned_32 a b f g ∙ borrowed w32 m n (unsigned_32 a f))
 
@@ -232,7 +240,8 @@ subtracted_u8 x y label a b registers has kx ky f g e e' =
     kept registers 7 y (word_of s) ky.not_result ∙ e' in
     refused_less (Ins.Sub 7 x y) x y label 0 (in_range U8 z) s registers has
     (by_two (Ins.Sub 7 x y) 7 x y (λ i j. low_bits 64 (pos i -ℤ pos j)) (λ m s. refl) registers (word_of a) (word_of b)
-    (word_of s) e e' (difference_64 (word_of a) (word_of b) a b (pos m) (pos n) refl refl (number_64 a f) (number_64 b g)))
+    (word_of s) e e' (difference_64 (word_of a) (word_of b) a b (pos m) (pos n) refl refl (number_64 a f)
+    (number_64 b g)))
     (ap (λ i. nat_lt i (slice_index (with_register registers 7 (word_of s)) y)) at_x ∙ ap (nat_lt (word_of a)) at_y
     ∙ ap (λ i. nat_lt i (word_of b)) (bits_of a f) ∙ ap (nat_lt m) (bits_of b g) ∙ borrowed w64 m n (unsigned_64 a f))
 
@@ -341,7 +350,8 @@ refused_64 : (first second : Ins) (y label : ℕ) (z b : ℤ) (u : Bool) (regist
     → GivesWord first registers 7 (word_of (int_wrap w64 z))
     → GivesWord second (with_register registers 7 (word_of (int_wrap w64 z))) 28 (one_if u)
     → (one_if u == one_if (int_lt b (pos 0))) ≡ in_range I8 z
-    → AnswersOr (Single first ∷ Single second ∷ Single (Ins.Slti 29 y (pos 0)) ∷ unless_same 28 29 label ∷ []) registers 7
+    → AnswersOr (Single first ∷ Single second ∷ Single (Ins.Slti 29 y (pos 0)) ∷ unless_same 28 29 label ∷ []) registers
+    7
     label (option_map word_of (checked I8 z))
 refused_64 first second y label z b u registers has ky fits e gives gives' is =
     let p : ℕ = word_of (int_wrap w64 z) in

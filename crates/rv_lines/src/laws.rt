@@ -2,7 +2,8 @@
 //! all values.
 ghost use Rattle.std.specs.Option.{option_map};
 ghost use Rattle.std.specs.Ordering.{int_eq};
-ghost use Rattle.std.specs.Prelude.{◌≡◌, ◌<◌, ◌^◌, ℕ, ℤ, pos, true, false, if◌then◌else◌, List, slice_index, Some, None};
+ghost use Rattle.std.specs.Prelude.{◌≡◌, ◌<◌, ◌^◌, ℕ, ℤ, pos, true, false, if◌then◌else◌, List, slice_index, Some};
+ghost use Rattle.std.specs.Prelude.{None};
 ghost use Rattle.num_core.specs.Integers.{IsOfKind};
 ghost use Rattle.num_core.specs.Run.{Running, Streams};
 ghost use Rattle.num_core.specs.declared.kind.Kind.{Kind};
@@ -65,8 +66,8 @@ pub fn computing_lines()
         LeadsTo (compares test kind r x y) registers r (one_if (holds_of test kind a b)) }
 {}
 
-/// Where the lines of operations lead that may refuse: on behind the last, with the result in a register, or to a label.
-/// On the way they use x7, x28 and x29, and each other register stays as it was.
+/// Where the lines of operations lead that may refuse: on behind the last, with the result in a register, or to a
+/// label. On the way they use x7, x28 and x29, and each other register stays as it was.
 pub fn refusing_lines()
     // a sum, a difference or a product, to x7 or to the label where it is out of range
     ensures combined { (operation : CheckedOperation) (kind : Kind) (x y label : ℕ) (a b : ℤ) (registers : List ℕ) →

@@ -6,3 +6,4 @@ pub mod Requests
 pub mod Addresses
 pub mod AddressLaws
 pub mod KeptSegments
+pub mod KeptBytes

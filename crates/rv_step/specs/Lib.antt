@@ -3,3 +3,4 @@ pub mod Segments
 pub mod Outcomes
 pub mod Steps
 pub mod Memory
+pub mod Bytes

@@ -1,10 +1,12 @@
-//! Laws of memory, for the proofs of the crates above. The function does nothing, and ensures its laws of all machines.
+//! Laws of memory, for the proofs of the crates above. Each function does nothing, and ensures its laws of all
+//! machines.
 ghost use Rattle.std.specs.Prelude.{◌≡◌, ◌≢◌, ◌↔◌, ℕ, ◌+◌, ◌%◌, ◌^◌, ◌<◌, ◌≤◌, List, ◌++◌, length, take, drop, min};
 ghost use Rattle.std.specs.Prelude.{Some};
 ghost use Rattle.byteorder.specs.Endian.{little_number, little_bytes};
 ghost use Rattle.num_core.specs.Run.{Running, Streams};
 ghost use Rattle.rv_step.specs.Machine.{MachineState, register, with_register, next_pc, gives, traps, loads, stores};
 ghost use Rattle.rv_step.specs.Machine.{reads, writes, fetched, machine_step};
+ghost use Rattle.rv_step.specs.Bytes.{AreBytes, HoldsBytes};
 ghost use Rattle.rv_step.specs.Memory.{Bytes, Number, MayRead, MayWrite, MayExecute, AllowsTheSame, Writes};
 ghost use Rattle.rv_step.specs.Segments.{AreSegments};
 ghost use Rattle.rv_step.specs.declared.trap.Cause.TheVariants.{Load, Store};
@@ -62,4 +64,18 @@ pub fn bytes_in_memory()
         × (new.pc ≡ next_pc m)
         × (new.registers ≡ with_register m.registers 10 (min (register m 12) (length streams.input)))
         × Writes (register m 11) (take (register m 12) streams.input) m new }
+{}
+
+/// What steps leave in memory.
+pub fn steps_in_memory()
+    // bytes, where there were bytes, and what is left to read is bytes too
+    ensures bytes { (m new : MachineState) (streams streams' : Streams) → AreSegments m.segments → HoldsBytes m →
+        AreBytes streams.input → machine_step m streams ≡ Running new streams' →
+        HoldsBytes new × AreBytes streams'.input }
+    // a store leaves one machine, whatever the streams are
+    ensures stored { (m : MachineState) (count address value : ℕ) →
+        AreSegments m.segments → MayWrite m address count →
+        (new : MachineState) × ((streams : Streams) → stores m count address value streams ≡ Running new streams)
+        × (new.pc ≡ next_pc m) × (new.registers ≡ m.registers)
+        × Writes address (little_bytes count value) m new }
 {}

@@ -15,7 +15,7 @@ mod trap;
 mod value;
 
 pub use fault::{RunFault, StepFault};
-pub use laws::bytes_in_memory;
+pub use laws::{bytes_in_memory, steps_in_memory};
 pub use machine::Machine;
 pub use run::Ran;
 pub use segment::Segment;
