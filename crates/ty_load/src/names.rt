@@ -194,7 +194,7 @@ impl Names {
     }
 
     /// The first module in front of the core whose assembly has this name.
-    fn handed_in(&self, name: &[u8]) -> Option<u32>
+    pub fn handed_in(&self, name: &[u8]) -> Option<u32>
         ensures { result ≡ references.handed_in self.now name.now }
     {
         self.found.get(name).copied()

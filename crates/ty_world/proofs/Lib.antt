@@ -1,0 +1,4 @@
+pub mod Ids
+pub mod Graphs
+pub mod Held
+pub mod Twice

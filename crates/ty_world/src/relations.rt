@@ -1,0 +1,113 @@
+//! How type definitions lead to others, and the first that leads back to itself.
+ghost use Rattle.std.specs.Prelude.{◌≡◌, ◌≤◌, ℕ, All, IfOk};
+ghost use Rattle.ty_names.specs.Definitions.{enclosing, type_count};
+ghost use Rattle.ty_names.specs.Modules.{tables_at};
+ghost use Rattle.ty_load.specs.Cycles.{all_ids, first_on_cycle as first_in, is_nested_in as is_nested_in_world};
+ghost use Rattle.ty_load.specs.Named.{IsDefined};
+ghost use Rattle.ty_world.specs.Numbering.{IsNumbering, edges_of, graph_of};
+
+use crate::numbering::{Numbering, numbering};
+use graph_cycles::first_on_cycle;
+use md_tables::Module;
+use num_core::{List, Memory};
+use std::alloc::Global;
+use ty_load::Names;
+use ty_terms::TypeId;
+
+/// A relation in which a type definition must not lead back to itself.
+#[derive(Clone, Copy, Debug, PartialEq, Eq)]
+pub enum Relation {
+    /// From a type to the one in which it is nested (ECMA-335 II.22.32).
+    Nesting,
+}
+
+/// In a module no type is nested in one that isn't there.
+fn nests_within(module: &Module)
+    ensures { (row : ℕ) → enclosing module.now.tables row ≤ type_count module.now.tables }
+{
+    let _tables = module.tables();
+}
+
+/// The row of the type around a type, or 0.
+fn encloser(names: &Names, id: TypeId) -> u32
+    requires { IsDefined names.now id }
+    ensures outer { result ≡ enclosing (tables_at names.now id.module) id.row }
+    ensures within { result ≤ type_count (tables_at names.now id.module) }
+{
+    match names.modules().get(id.module as usize) {
+        Some(module) => {
+            nests_within(module);
+            names.enclosing(id)
+        }
+        None => 0,
+    }
+}
+
+/// The type around a type, if there is one.
+fn is_nested_in(alloc: Global, names: &Names, id: TypeId) -> Result<Vec<TypeId>, Memory>
+    requires { IsDefined names.now id }
+    ensures led { IfOk result (λ ids. ids.items ≡ is_nested_in_world names.now id) }
+    ensures defined { IfOk result (λ ids. All (IsDefined names.now) ids.items) }
+{
+    let mut ids = Vec::new(alloc);
+    let outer = encloser(names, id);
+    if outer != 0 {
+        ids.push(TypeId {
+            module: id.module,
+            row: outer,
+        })?;
+    }
+    Ok(ids)
+}
+
+/// The definitions to which one leads.
+fn edges(
+    alloc: Global,
+    names: &Names,
+    relation: Relation,
+    id: TypeId,
+) -> Result<Vec<TypeId>, Memory>
+    requires { IsDefined names.now id }
+    ensures led { IfOk result (λ ids. ids.items ≡ edges_of relation names.now id) }
+    ensures defined { IfOk result (λ ids. All (IsDefined names.now) ids.items) }
+{
+    match relation {
+        Relation::Nesting => is_nested_in(alloc, names, id),
+    }
+}
+
+/// The graph of a relation: for each definition the numbers of those to which it leads.
+fn graph(
+    alloc: Global,
+    names: &Names,
+    numbering: &Numbering,
+    relation: Relation,
+) -> Result<Vec<List<usize>>, Memory>
+    requires { IsNumbering names.now numbering.now }
+    ensures led { IfOk result (λ graph. graph.items ≡ graph_of names.now (edges_of relation names.now)) }
+    ensures defined { IfOk result (λ _.
+        All (λ id. All (IsDefined names.now) (edges_of relation names.now id)) (all_ids names.now)) }
+{
+    let mut graph = Vec::new(alloc);
+    for id in numbering.ids() {
+        let ids = edges(alloc, names, relation, *id)?;
+        graph.push(numbering.numbers(alloc, names, ids.as_slice())?)?;
+    }
+    Ok(graph)
+}
+
+/// The first type definition, by modules and rows, that leads back to itself.
+pub fn first_cyclic(
+    alloc: Global,
+    names: &Names,
+    relation: Relation,
+) -> Result<Option<TypeId>, Memory>
+    ensures { IfOk result (λ id. id ≡ first_in names.now (edges_of relation names.now)) }
+{
+    let numbering = numbering(alloc, names)?;
+    let graph = graph(alloc, names, &numbering, relation)?;
+    match first_on_cycle(alloc, graph.as_slice())? {
+        Some(place) => Ok(numbering.ids().get(place).copied()),
+        None => Ok(None),
+    }
+}
