@@ -14,7 +14,7 @@ use Rattle.ty_names.specs.Definitions.{type_count}
 use Rattle.ty_names.specs.References.{id_of}
 use Rattle.ty_load.specs.Bases.{same_id}
 use Rattle.ty_load.specs.Cycles.{all_ids, first_on_cycle, is_on_cycle, leads_within}
-use Rattle.ty_load.specs.Named.{IsDefined}
+use Rattle.ty_world.specs.Numbering.{IsDefined}
 use Rattle.graph_cycles.specs.Ways.{first_cyclic, targets, is_on_cycle as is_cyclic, leads_within as leads_in_graph}
 use Rattle.ty_world.specs.Numbering.{start_of, number_of, graph_of}
 use Rattle.ty_world.proofs.Ids.{all_counted, all_defined, all_numbered, number_tells, number_within, one_number}

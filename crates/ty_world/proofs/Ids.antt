@@ -14,7 +14,7 @@ use Rattle.ty_names.specs.Definitions.{type_count}
 use Rattle.ty_names.specs.References.{id_of}
 use Rattle.ty_load.specs.Bases.{same_id}
 use Rattle.ty_load.specs.Cycles.{all_ids, ids_of}
-use Rattle.ty_load.specs.Named.{IsDefined}
+use Rattle.ty_world.specs.Numbering.{IsDefined}
 use Rattle.ty_world.specs.Numbering.{start_of, number_of}
 
 range_append : (a c d : ℕ) → range_with_len a c ++ range_with_len (a + c) d ≡ range_with_len a (c + d)

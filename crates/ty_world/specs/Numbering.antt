@@ -1,5 +1,5 @@
 -- The type definitions of a world by numbers, over its modules in their order.
-use Rattle.std.specs.Prelude.{◌≡◌, ℕ, zero, suc, ◌+◌, ◌-◌, ◌<◌, List, length, map, slice_index}
+use Rattle.std.specs.Prelude.{◌≡◌, ℕ, zero, suc, ◌+◌, ◌-◌, ◌<◌, ◌≤◌, List, length, map, slice_index}
 use Rattle.ty_terms.specs.declared.names.TypeId.{TypeId}
 use Rattle.ty_names.specs.Modules.{World, tables_at}
 use Rattle.ty_names.specs.Definitions.{type_count}
@@ -7,6 +7,10 @@ use Rattle.ty_load.specs.Cycles.{all_ids, is_nested_in}
 use Rattle.ty_world.specs.declared.numbering.Numbering.{Numbering}
 use Rattle.ty_world.specs.declared.relations.Relation.{Relation}
 use Rattle.ty_world.specs.declared.relations.Relation.TheVariants.{Nesting}
+
+-- a type definition that is there
+abbrev pub IsDefined : World → TypeId → Type 0
+IsDefined world id = (1 ≤ id.row) × (id.row ≤ type_count (tables_at world id.module))
 
 -- how many definitions there are in so many modules, the first ones
 abbrev pub start_of : World → ℕ → ℕ

@@ -3,7 +3,7 @@ ghost use Rattle.std.specs.Prelude.{◌≡◌, ◌++◌, All, map, IfOk, OnOk};
 ghost use Rattle.std.specs.List.{range_with_len};
 ghost use Rattle.ty_names.specs.Definitions.{type_count};
 ghost use Rattle.ty_names.specs.References.{id_of};
-ghost use Rattle.ty_load.specs.Named.{IsDefined};
+ghost use Rattle.ty_world.specs.Numbering.{IsDefined};
 ghost use Rattle.ty_world.specs.Numbering.{IsNumbering, number_of as number_in};
 
 use md_tables::Table;

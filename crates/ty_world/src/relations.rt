@@ -3,7 +3,7 @@ ghost use Rattle.std.specs.Prelude.{◌≡◌, ◌≤◌, ℕ, All, IfOk};
 ghost use Rattle.ty_names.specs.Definitions.{enclosing, type_count};
 ghost use Rattle.ty_names.specs.Modules.{tables_at};
 ghost use Rattle.ty_load.specs.Cycles.{all_ids, first_on_cycle as first_in, is_nested_in as is_nested_in_world};
-ghost use Rattle.ty_load.specs.Named.{IsDefined};
+ghost use Rattle.ty_world.specs.Numbering.{IsDefined};
 ghost use Rattle.ty_world.specs.Numbering.{IsNumbering, edges_of, graph_of};
 
 use crate::numbering::{Numbering, numbering};

@@ -1,5 +1,5 @@
 use Rattle.std.proofs.Common.{◌≡◌, All, map, take}
-use Rattle.ty_load.specs.Named.{IsDefined}
+use Rattle.ty_world.specs.Numbering.{IsDefined}
 use Rattle.ty_world.specs.Numbering.{edges_of, number_of}
 use Rattle.ty_world.proofs.relations.graph.Given as goal
 
