@@ -26,7 +26,7 @@ fn is_parameter_of(parameter: &TableRow, row: u32) -> bool
 }
 
 /// How many generic parameters a method has (ECMA-335 II.22.20).
-fn parameters(tables: &[Table], row: u32) -> usize
+pub(crate) fn parameters(tables: &[Table], row: u32) -> usize
     ensures { result ≡ definitions.generic_count tables.now 0x06 row }
 {
     rows(tables, 0x2A).iter().filter(|parameter| is_parameter_of(parameter, row)).count()
