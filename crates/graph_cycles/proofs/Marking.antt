@@ -25,15 +25,15 @@ marked_done marks place marked =
     ]
 
 -- a place that isn't done is there, and isn't marked
-pub open_within : (marks : List Bool) (place : ℕ) → is_done marks place ≡ false → place < length marks
-open_within marks place open =
+pub unseen_within : (marks : List Bool) (place : ℕ) → is_done marks place ≡ false → place < length marks
+unseen_within marks place unseen =
     elim (cases_lt place (length marks)) [
       | inl lt ↦ lt
-      | inr past ↦ absurd (false≢true (sym open ∙ get_or_past marks place true past))
+      | inr past ↦ absurd (false≢true (sym unseen ∙ get_or_past marks place true past))
     ]
 
-pub open_unmarked : (marks : List Bool) (place : ℕ) → is_done marks place ≡ false → is_marked marks place ≡ false
-open_unmarked marks place open = get_or_default marks place false true (open_within marks place open) ∙ open
+pub unseen_unmarked : (marks : List Bool) (place : ℕ) → is_done marks place ≡ false → is_marked marks place ≡ false
+unseen_unmarked marks place unseen = get_or_default marks place false true (unseen_within marks place unseen) ∙ unseen
 
 pub done_set : (marks : List Bool) (place p : ℕ) → is_done marks p ≡ true → is_done (set marks place true) p ≡ true
 done_set marks place p done =
@@ -78,15 +78,15 @@ none_left graph marks e =
 
 off_here : (graph : List (List ℕ)) (marks : List Bool) (place : ℕ) → AreOff graph marks → is_done marks place ≡ false
     → list_all (is_done marks) (targets graph place) ≡ true → is_on_cycle graph place ≡ false
-off_here graph marks place a open all =
+off_here graph marks place a unseen all =
     false_from_ne_true (is_on_cycle graph place)
-    (λ on. false≢true (sym open ∙ led_done graph marks place a.closed (length graph) place all on))
+    (λ on. false≢true (sym unseen ∙ led_done graph marks place a.closed (length graph) place all on))
 
 -- A place that leads to places alone that were left is left.
 pub left_behind : (graph : List (List ℕ)) (marks : List Bool) (place : ℕ) → AreOff graph marks
     → is_done marks place ≡ false → list_all (is_done marks) (targets graph place) ≡ true
     → AreOff graph (set marks place true)
-left_behind graph marks place a open all =
+left_behind graph marks place a unseen all =
     let grown : (xs : List ℕ) → list_all (is_done marks) xs ≡ true → list_all (is_done (set marks place true)) xs ≡ true
     = λ xs h. all_weaker (is_done marks) (is_done (set marks place true)) (λ p e. done_set marks place p e) xs h in
     record {
@@ -97,7 +97,7 @@ left_behind graph marks place a open all =
         | inr ne ↦ grown (targets graph p) (a.closed p (sym (get_or-set_other marks place p true true ne) ∙ done))
       ];
       off = λ p marked. elim (cases_eq p place) [
-        | inl e ↦ subst (λ q. is_on_cycle graph q ≡ false) (sym e) (off_here graph marks place a open all)
+        | inl e ↦ subst (λ q. is_on_cycle graph q ≡ false) (sym e) (off_here graph marks place a unseen all)
         | inr ne ↦ a.off p (sym (get_or-set_other marks place p true false ne) ∙ marked)
       ];
     }

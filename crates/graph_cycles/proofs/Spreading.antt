@@ -1,7 +1,7 @@
 -- Marks that spread over the edges of a graph.
 use Rattle.std.proofs.Common.{◌≡◌, ◌⊎◌, inl, inr, ◌∙◌, ℕ, suc, ◌+◌, ◌<◌, ◌≤◌, Bool, true, false, cond, List, [], ◌∷◌, ◌++◌}
 use Rattle.std.proofs.Common.{length, replicate, Contains, refl, sym, ap, subst, arith}
-use Rattle.std.proofs.Common.{get_or-set_same, get_or-set_other}
+use Rattle.std.proofs.Common.{get_or, get_or-set_same, get_or-set_other}
 use Rattle.std.proofs.Math.ListN.{set, length-set}
 use Rattle.std.proofs.lemmas.Bool.{and_from, cases_eq, false≢true}
 use Rattle.std.proofs.lemmas.List.{get_or_past, length_push}
@@ -13,7 +13,7 @@ use Rattle.std.specs.List.{list_all}
 use Rattle.graph_cycles.specs.Ways.{targets, leads_within}
 use Rattle.graph_cycles.specs.Marks.{is_done, is_marked, mark_count, AreReached, AreSpreading, Spread}
 use Rattle.graph_cycles.proofs.Leading.{all_weaker, led_done, one_edge, one_further, within_more}
-use Rattle.graph_cycles.proofs.Marking.{done_cases, done_set, marked_done, none_marked, open_unmarked, open_within}
+use Rattle.graph_cycles.proofs.Marking.{done_cases, done_set, marked_done, none_marked, unseen_unmarked, unseen_within}
 use Rattle.graph_cycles.proofs.Marking.{past_all}
 
 -- ---- some places
@@ -54,16 +54,18 @@ spread_marked place marks waiting done = record {
 
 one_counted : (marks : List Bool) (place : ℕ) → is_done marks place ≡ false
     → mark_count (set marks place true) ≡ mark_count marks + 1
-one_counted marks place open =
-    let e = sum_by-set (λ (mark : Bool). cond mark 1 0) marks place true false (open_within marks place open) in
-    let none = ap (λ (b : Bool). cond b 1 0) (open_unmarked marks place open) in
+one_counted marks place unseen =
+    let size : Bool → ℕ = λ mark. cond mark 1 0 in
+    let e : mark_count (set marks place true) + size (get_or marks place false) ≡ mark_count marks + 1 =
+    sum_by-set size marks place true false (unseen_within marks place unseen) in
+    let none : size (get_or marks place false) ≡ 0 = ap size (unseen_unmarked marks place unseen) in
     omega (arith, e, none)
 
 pub spread_one : (place : ℕ) (marks : List Bool) (waiting : List ℕ) → is_done marks place ≡ false
     → Spread (place ∷ []) marks (set marks place true) waiting (waiting ++ place ∷ [])
-spread_one place marks waiting open =
-    let lt : place < length marks = open_within marks place open in
-    let counted : mark_count (set marks place true) ≡ mark_count marks + 1 = one_counted marks place open in
+spread_one place marks waiting unseen =
+    let lt : place < length marks = unseen_within marks place unseen in
+    let counted : mark_count (set marks place true) ≡ mark_count marks + 1 = one_counted marks place unseen in
     let long : length (waiting ++ place ∷ []) ≡ length waiting + 1 = length_push waiting place in
     let rises : mark_count marks < mark_count (set marks place true) = omega (arith, counted) in
     record {

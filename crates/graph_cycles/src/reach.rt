@@ -1,5 +1,5 @@
 //! The places to which some way leads from a place.
-ghost use Rattle.std.specs.Prelude.{◌≡◌, ◌<◌, length, IfOk, OnOk};
+ghost use Rattle.std.specs.Prelude.{◌≡◌, ◌<◌, false, length, replicate, IfOk, OnOk};
 ghost use Rattle.graph_cycles.specs.Marks.{AreReached, Spread};
 ghost use Rattle.graph_cycles.specs.Ways.{is_on_cycle as is_on_cycle_in};
 
@@ -20,16 +20,30 @@ fn spread(places: &[usize], marks: &mut [bool], waiting: &mut Vec<usize>) -> Res
     Ok(())
 }
 
+/// Marks the places to which some way leads from a place, where none is marked.
+fn mark_reached(
+    alloc: Global,
+    graph: &[List<usize>],
+    marks: &mut [bool],
+    from: usize,
+) -> Result<(), Memory>
+    requires { marks.old ≡ replicate (length graph.now) false }
+    ensures { OnOk result (AreReached graph.now from marks.new) }
+{
+    let mut waiting = Vec::new(alloc);
+    waiting.push(from)?;
+    while let Some(place) = waiting.pop() {
+        spread(targets(graph, place), marks, &mut waiting)?;
+    }
+    Ok(())
+}
+
 /// Marks of the places to which some way leads from a place.
 fn reached(alloc: Global, graph: &[List<usize>], from: usize) -> Result<Vec<bool>, Memory>
     ensures { IfOk result (λ marks. AreReached graph.now from marks.items) }
 {
     let mut marks = unmarked(alloc, graph.len())?;
-    let mut waiting = Vec::new(alloc);
-    waiting.push(from)?;
-    while let Some(place) = waiting.pop() {
-        spread(targets(graph, place), marks.as_mut_slice(), &mut waiting)?;
-    }
+    mark_reached(alloc, graph, marks.as_mut_slice(), from)?;
     Ok(marks)
 }
 

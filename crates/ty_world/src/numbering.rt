@@ -47,7 +47,7 @@ fn push_ids(ids: &mut Vec<TypeId>, tables: &[Table], module: u32) -> Result<(), 
 }
 
 /// The type definitions of a world by numbers.
-pub(crate) fn numbering(alloc: Global, names: &Names) -> Result<Numbering, Memory>
+pub(crate) fn numbering_of(alloc: Global, names: &Names) -> Result<Numbering, Memory>
     ensures { IfOk result (IsNumbering names.now) }
 {
     let mut ids = Vec::new(alloc);

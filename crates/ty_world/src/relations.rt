@@ -6,7 +6,7 @@ ghost use Rattle.ty_load.specs.Cycles.{all_ids, first_on_cycle as first_in, is_n
 ghost use Rattle.ty_world.specs.Numbering.{IsDefined};
 ghost use Rattle.ty_world.specs.Numbering.{IsNumbering, edges_of, graph_of};
 
-use crate::numbering::{Numbering, numbering};
+use crate::numbering::{Numbering, numbering_of};
 use graph_cycles::first_on_cycle;
 use md_tables::Module;
 use num_core::{List, Memory};
@@ -22,10 +22,10 @@ pub enum Relation {
 }
 
 /// In a module no type is nested in one that isn't there.
-fn nests_within(module: &Module)
-    ensures { (row : ℕ) → enclosing module.now.tables row ≤ type_count module.now.tables }
+fn nests_within(given: &Module)
+    ensures { (row : ℕ) → enclosing given.now.tables row ≤ type_count given.now.tables }
 {
-    let _tables = module.tables();
+    let _tables = given.tables();
 }
 
 /// The row of the type around a type, or 0.
@@ -35,8 +35,8 @@ fn encloser(names: &Names, id: TypeId) -> u32
     ensures within { result ≤ type_count (tables_at names.now id.module) }
 {
     match names.modules().get(id.module as usize) {
-        Some(module) => {
-            nests_within(module);
+        Some(given) => {
+            nests_within(given);
             names.enclosing(id)
         }
         None => 0,
@@ -104,7 +104,7 @@ pub fn first_cyclic(
 ) -> Result<Option<TypeId>, Memory>
     ensures { IfOk result (λ id. id ≡ first_in names.now (edges_of relation names.now)) }
 {
-    let numbering = numbering(alloc, names)?;
+    let numbering = numbering_of(alloc, names)?;
     let graph = graph(alloc, names, &numbering, relation)?;
     match first_on_cycle(alloc, graph.as_slice())? {
         Some(place) => Ok(numbering.ids().get(place).copied()),

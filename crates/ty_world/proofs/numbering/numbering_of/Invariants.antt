@@ -2,7 +2,7 @@ use Rattle.std.proofs.Common.{◌≡◌, ◌<◌, ℕ, length, slice_index}
 use Rattle.std.specs.List.{flat_map, range_with_len}
 use Rattle.ty_load.specs.Cycles.{ids_of}
 use Rattle.ty_world.specs.Numbering.{start_of}
-use Rattle.ty_world.proofs.numbering.numbering.Given as goal
+use Rattle.ty_world.proofs.numbering.numbering_of.Given as goal
 
 abbrev pub invariant-loop-number : goal.invariant-loop-number
 invariant-loop-number l = record {
