@@ -1,5 +1,5 @@
 -- The first place that passes a test, where one doesn't.
-use Rattle.std.proofs.Common.{◌≡◌, ◌∙◌, ℕ, suc, ◌+◌, ◌-◌, ◌<◌, Bool, false, cond, Option, Some, find, ap, arith}
+use Rattle.std.proofs.Common.{◌≡◌, ◌∙◌, ℕ, suc, ◌+◌, ◌-◌, ◌<◌, Bool, false, cond, Some, find, ap, arith}
 use Rattle.std.specs.List.{range_with_len}
 
 pub first_behind : (p : ℕ → Bool) (place end : ℕ) → place < end → p place ≡ false

@@ -1,11 +1,11 @@
 -- Marks, one more of them, and what was left behind.
-use Rattle.std.proofs.Common.{◌≡◌, ◌⊎◌, inl, inr, ◌∙◌, ℕ, ◌<◌, ◌≤◌, Bool, true, false, List, [], length, replicate, get_or}
+use Rattle.std.proofs.Common.{◌≡◌, ◌⊎◌, inl, inr, ◌∙◌, ℕ, ◌<◌, ◌≤◌, Bool, true, false, List, [], length, replicate}
 use Rattle.std.proofs.Common.{refl, sym, ap, subst, arith, get_or-set_same, get_or-set_other}
 use Rattle.std.proofs.Math.ListN.{set, length-set}
 use Rattle.std.proofs.lemmas.Bool.{cases_lt, cases_eq, false≢true, false_from_ne_true}
 use Rattle.std.proofs.lemmas.List.{get_or_default, get_or_past, get_or-replicate, length-replicate, set_past}
 use Rattle.std.specs.List.{list_all}
-use Rattle.graph_cycles.specs.Ways.{targets, leads_within, is_on_cycle}
+use Rattle.graph_cycles.specs.Ways.{targets, is_on_cycle}
 use Rattle.graph_cycles.specs.Marks.{is_done, is_marked, AreOff}
 use Rattle.graph_cycles.proofs.Leading.{all_weaker, led_done}
 

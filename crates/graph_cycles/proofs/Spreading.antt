@@ -1,6 +1,6 @@
 -- Marks that spread over the edges of a graph.
-use Rattle.std.proofs.Common.{◌≡◌, ◌⊎◌, inl, inr, ◌∙◌, ℕ, suc, ◌+◌, ◌<◌, ◌≤◌, Bool, true, false, cond, List, [], ◌∷◌, ◌++◌}
-use Rattle.std.proofs.Common.{length, replicate, Contains, refl, sym, ap, subst, arith}
+use Rattle.std.proofs.Common.{◌≡◌, ◌⊎◌, inl, inr, ◌∙◌, ℕ, suc, ◌+◌, ◌<◌, Bool, true, false, cond, List, [], ◌∷◌, ◌++◌}
+use Rattle.std.proofs.Common.{length, Contains, refl, sym, ap, subst, arith}
 use Rattle.std.proofs.Common.{get_or, get_or-set_same, get_or-set_other}
 use Rattle.std.proofs.Math.ListN.{set, length-set}
 use Rattle.std.proofs.lemmas.Bool.{and_from, cases_eq, false≢true}
@@ -13,7 +13,7 @@ use Rattle.std.specs.List.{list_all}
 use Rattle.graph_cycles.specs.Ways.{targets, leads_within}
 use Rattle.graph_cycles.specs.Marks.{is_done, is_marked, mark_count, AreReached, AreSpreading, Spread}
 use Rattle.graph_cycles.proofs.Leading.{all_weaker, led_done, one_edge, one_further, within_more}
-use Rattle.graph_cycles.proofs.Marking.{done_cases, done_set, marked_done, none_marked, unseen_unmarked, unseen_within}
+use Rattle.graph_cycles.proofs.Marking.{done_cases, marked_done, unseen_unmarked, unseen_within}
 use Rattle.graph_cycles.proofs.Marking.{past_all}
 
 -- ---- some places

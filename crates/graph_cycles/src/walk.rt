@@ -54,10 +54,7 @@ fn leave(graph: &[List<usize>], left: &mut [bool], place: usize)
 
 /// Marks of places that lie on no cycle: of all of them where there is no cycle, in a time that is linear in the size of
 /// the graph.
-pub(crate) fn places_off_cycles(
-    alloc: Global,
-    graph: &[List<usize>],
-) -> Result<Vec<bool>, Memory>
+pub(crate) fn places_off_cycles(alloc: Global, graph: &[List<usize>]) -> Result<Vec<bool>, Memory>
     ensures { IfOk result (λ marks. AreOff graph.now marks.items) }
 {
     let mut entered = unmarked(alloc, graph.len())?;

@@ -1,9 +1,9 @@
 -- Ways in a world are ways in the graph of its numbers.
 use Rattle.std.proofs.Common.{◌≡◌, ◌⊎◌, inl, inr, ◌∙◌, ℕ, zero, suc, ◌+◌, ◌-◌, ◌<◌, ◌≤◌, ◌==◌, ◌||◌, Bool, true, false}
 use Rattle.std.proofs.Common.{cond, List, [], ◌∷◌, length, map, get_or, slice_get, All, Option, Some, None, find}
-use Rattle.std.proofs.Common.{refl, sym, ap, subst, arith}
+use Rattle.std.proofs.Common.{refl, sym, ap, subst, arith, take, ◌++◌}
 use Rattle.std.proofs.lemmas.Bool.{cases_Bool, cases_lt}
-use Rattle.std.proofs.lemmas.List.{get_or-map, length-map}
+use Rattle.std.proofs.lemmas.List.{get_or-map, length-map, map_more}
 use Rattle.std.proofs.lemmas.List.Elements.{All-get_or, All-head, All-tail}
 use Rattle.std.proofs.lemmas.List.FromFn.{get_or-range_with_len}
 use Rattle.std.specs.List.{list_any, range_with_len}
@@ -105,10 +105,11 @@ module _ (world : World) where
       let ids : List TypeId = all_ids world in
       let place : ℕ = number_of world id in
       let below : place < length ids = number_below id h in
+      let zero_more : 0 + place ≡ place = omega arith in
       let there : IsDefined world (get_or ids place d) = All-get_or (IsDefined world) ids place d below (all_defined world) in
       let numbered : number_of world (get_or ids place d) ≡ place =
       sym (get_or-map (number_of world) ids place d 0 below)
-      ∙ (ap (λ xs. get_or xs place 0) (all_numbered world) ∙ get_or-range_with_len 0 (length ids) place 0 below) in
+      ∙ (ap (λ xs. get_or xs place 0) (all_numbered world) ∙ get_or-range_with_len 0 (length ids) place 0 below ∙ zero_more) in
       same_ids (get_or ids place d) id (one_number world (get_or ids place d) id there h numbered)
 
   -- ---- ways
@@ -171,3 +172,20 @@ module _ (world : World) where
             → option_and_then (slice_get xs) found ≡ option_and_then (at_place xs 0) found
         from_zero xs None = refl
         from_zero xs (Some place) = let e : place ≡ place - 0 = omega arith in ap (slice_get xs) e
+
+    pub first_found : (ids : List TypeId) (graph : List (List ℕ)) (found : Option ℕ) (place : ℕ) → ids ≡ all_ids world
+        → graph ≡ graph_of world edges → found ≡ first_cyclic graph → found ≡ Some place
+        → slice_get ids place ≡ first_on_cycle world edges
+    first_found ids graph found place e f g h =
+        ap (λ xs. slice_get xs place) e
+        ∙ (ap (option_and_then (slice_get (all_ids world))) (sym h ∙ (g ∙ ap first_cyclic f)) ∙ first_is)
+
+    pub none_found : (graph : List (List ℕ)) (found : Option ℕ) → graph ≡ graph_of world edges
+        → found ≡ first_cyclic graph → found ≡ None → None ≡ first_on_cycle world edges
+    none_found graph found f g h =
+        ap (option_and_then (slice_get (all_ids world))) (sym h ∙ (g ∙ ap first_cyclic f)) ∙ first_is
+
+-- one item more
+pub graph_more : {X Y : Type 0} (f : X → Y) (xs : List X) (i : ℕ) (d : X) (old new : List Y) (y : Y) → i < length xs
+    → old ≡ map f (take i xs) → new ≡ old ++ y ∷ [] → y ≡ f (get_or xs i d) → new ≡ map f (take (i + 1) xs)
+graph_more f xs i d old new y h e g here = g ∙ ((λ j. e j ++ here j ∷ []) ∙ sym (map_more f xs i d h))

@@ -1,10 +1,10 @@
 -- The numbers of type definitions: each has one of its own, and they are 0, 1, 2 and so on.
 use Rattle.std.proofs.Common.{◌≡◌, ◌⊎◌, inl, inr, ◌∙◌, ℕ, zero, suc, ◌+◌, ◌-◌, ◌<◌, ◌≤◌, ◌==◌, ◌&&◌, Bool, true, false}
 use Rattle.std.proofs.Common.{List, [], ◌∷◌, ◌++◌, length, map, get_or, All, refl, sym, ap, subst, arith, add-one}
-use Rattle.std.proofs.Common.{length-append, eqb-true, eq-eqb}
-use Rattle.std.proofs.lemmas.Bool.{and_from, and_parts, cases_Bool, cases_order, false_from_ne_true, false≢true}
-use Rattle.std.proofs.lemmas.List.{get_or-map, length-map, map-append}
-use Rattle.std.proofs.lemmas.List.Concat.{flat_map-cons}
+use Rattle.std.proofs.Common.{append-nil, length-append, eqb-true, eq-eqb}
+use Rattle.std.proofs.lemmas.Bool.{and_from, and_parts, cases_Bool, cases_lt, cases_order, false_from_ne_true, false≢true}
+use Rattle.std.proofs.lemmas.List.{get_or_append_left, get_or_at, length-map, map-append}
+use Rattle.std.proofs.lemmas.List.Concat.{flat_map-append, flat_map-cons}
 use Rattle.std.proofs.lemmas.List.Elements.{All-append, All-get_or, All-map, All-nil}
 use Rattle.std.proofs.lemmas.List.FromFn.{get_or-range_with_len, length-range_with_len}
 use Rattle.std.specs.List.{flat_map, range_with_len}
@@ -17,7 +17,7 @@ use Rattle.ty_load.specs.Cycles.{all_ids, ids_of}
 use Rattle.ty_world.specs.Numbering.{IsDefined}
 use Rattle.ty_world.specs.Numbering.{start_of, number_of}
 
-range_append : (a c d : ℕ) → range_with_len a c ++ range_with_len (a + c) d ≡ range_with_len a (c + d)
+pub range_append : (a c d : ℕ) → range_with_len a c ++ range_with_len (a + c) d ≡ range_with_len a (c + d)
 range_append a zero d =
     let e : a + 0 ≡ a = omega arith in
     let f : 0 + d ≡ d = omega arith in
@@ -31,7 +31,7 @@ range_append a (suc c) d =
 module _ (world : World) where
   -- ---- each has a number of its own
 
-  start_rises : (m n : ℕ) → m ≤ n → start_of world m ≤ start_of world n
+  pub start_rises : (m n : ℕ) → m ≤ n → start_of world m ≤ start_of world n
   start_rises m zero h =
       let e : m ≡ 0 = omega arith in
       subst (λ k. start_of world k ≤ 0) (sym e) (omega arith)
@@ -70,18 +70,18 @@ module _ (world : World) where
       → (number_of world a == number_of world b) ≡ same_id a b
   number_tells a b h g =
       elim (cases_Bool (number_of world a == number_of world b)) [
-        | inl yes ↦
+        | inl told ↦
             let both : (a.module ≡ b.module) × (a.row ≡ b.row) =
-            one_number a b h g (eqb-true (number_of world a) (number_of world b) yes) in
-            yes ∙ sym (and_from (a.module == b.module) (a.row == b.row) (eq-eqb a.module b.module both.0)
+            one_number a b h g (eqb-true (number_of world a) (number_of world b) told) in
+            told ∙ sym (and_from (a.module == b.module) (a.row == b.row) (eq-eqb a.module b.module both.0)
             (eq-eqb a.row b.row both.1))
-        | inr no ↦
-            no ∙ sym (false_from_ne_true (same_id a b) (λ same.
+        | inr denied ↦
+            denied ∙ sym (false_from_ne_true (same_id a b) (λ same.
             let both : (a.module == b.module ≡ true) × (a.row == b.row ≡ true) =
             and_parts (a.module == b.module) (a.row == b.row) same in
             let numbers : number_of world a ≡ number_of world b =
             λ i. start_of world (eqb-true a.module b.module both.0 i) + (eqb-true a.row b.row both.1 i - 1) in
-            false≢true (sym no ∙ eq-eqb (number_of world a) (number_of world b) numbers)))
+            false≢true (sym denied ∙ eq-eqb (number_of world a) (number_of world b) numbers)))
       ]
 
   -- ---- all in order
@@ -146,6 +146,35 @@ module _ (world : World) where
       let all : start_of world from + length (some_ids from (suc count)) ≡ start_of world (from + 1) + length behind =
       omega (arith, long, next) in
       all ∙ (rest ∙ ap (start_of world) e)
+
+  -- ---- one module more
+
+  pub ids_more : (number : ℕ) → some_ids 0 (number + 1) ≡ some_ids 0 number ++ ids_of world number
+  ids_more number =
+      let e : 0 + number ≡ number = omega arith in
+      ap (flat_map (ids_of world)) (sym (range_append 0 number 1))
+      ∙ flat_map-append (ids_of world) (range_with_len 0 number) (range_with_len (0 + number) 1)
+      ∙ ap (λ xs. some_ids 0 number ++ xs)
+      (flat_map-cons (ids_of world) (0 + number) [] ∙ append-nil (ids_of world (0 + number)) ∙ ap (ids_of world) e)
+
+  pub ids_counted : (number : ℕ) → length (some_ids 0 number) ≡ start_of world number
+  ids_counted number =
+      let e : 0 + number ≡ number = omega arith in
+      let f : 0 + length (some_ids 0 number) ≡ length (some_ids 0 number) = omega arith in
+      sym f ∙ (some_counted number 0 ∙ ap (start_of world) e)
+
+  pub starts_more : (number : ℕ) (old new : List ℕ) (x : ℕ) → length old ≡ number
+      → ((k : ℕ) → k < number → get_or old k 0 ≡ start_of world k) → new ≡ old ++ x ∷ [] → x ≡ start_of world number
+      → (k : ℕ) → k < number + 1 → get_or new k 0 ≡ start_of world k
+  starts_more number old new x long so_far e here k h =
+      ap (λ xs. get_or xs k 0) e
+      ∙ elim (cases_lt k number) [
+        | inl below ↦ get_or_append_left old (x ∷ []) 0 k (omega arith) ∙ so_far k below
+        | inr above ↦
+            let same : k ≡ number = omega arith in
+            ap (λ n. get_or (old ++ x ∷ []) n 0) same ∙ get_or_at old x [] 0 number long
+            ∙ (here ∙ ap (start_of world) (sym same))
+      ]
 
   pub all_numbered : map (number_of world) (all_ids world) ≡ range_with_len 0 (length (all_ids world))
   all_numbered = some_numbered (length world) 0

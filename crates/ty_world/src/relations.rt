@@ -1,10 +1,10 @@
 //! How type definitions lead to others, and the first that leads back to itself.
-ghost use Rattle.std.specs.Prelude.{◌≡◌, ◌≤◌, ℕ, All, IfOk};
+ghost use Rattle.std.specs.Prelude.{◌≡◌, ◌≤◌, ℕ, All, map, slice_get, IfOk};
 ghost use Rattle.ty_names.specs.Definitions.{enclosing, type_count};
 ghost use Rattle.ty_names.specs.Modules.{tables_at};
 ghost use Rattle.ty_load.specs.Cycles.{all_ids, first_on_cycle as first_in, is_nested_in as is_nested_in_world};
 ghost use Rattle.ty_world.specs.Numbering.{IsDefined};
-ghost use Rattle.ty_world.specs.Numbering.{IsNumbering, edges_of, graph_of};
+ghost use Rattle.ty_world.specs.Numbering.{IsNumbering, edges_of, graph_of, number_of};
 
 use crate::numbering::{Numbering, numbering_of};
 use graph_cycles::first_on_cycle;
@@ -76,6 +76,23 @@ fn edges(
     }
 }
 
+/// The numbers of the definitions to which one leads.
+fn targets(
+    alloc: Global,
+    names: &Names,
+    numbering: &Numbering,
+    relation: Relation,
+    id: TypeId,
+) -> Result<List<usize>, Memory>
+    requires numbered { IsNumbering names.now numbering.now }
+    requires there { IsDefined names.now id }
+    ensures led { IfOk result (λ targets. targets ≡ map (number_of names.now) (edges_of relation names.now id)) }
+    ensures defined { IfOk result (λ _. All (IsDefined names.now) (edges_of relation names.now id)) }
+{
+    let ids = edges(alloc, names, relation, id)?;
+    numbering.numbers(alloc, names, ids.as_slice())
+}
+
 /// The graph of a relation: for each definition the numbers of those to which it leads.
 fn graph(
     alloc: Global,
@@ -90,10 +107,16 @@ fn graph(
 {
     let mut graph = Vec::new(alloc);
     for id in numbering.ids() {
-        let ids = edges(alloc, names, relation, *id)?;
-        graph.push(numbering.numbers(alloc, names, ids.as_slice())?)?;
+        graph.push(targets(alloc, names, numbering, relation, *id)?)?;
     }
     Ok(graph)
+}
+
+/// The definition at a place.
+fn id_at(ids: &[TypeId], place: usize) -> Option<TypeId>
+    ensures { result ≡ slice_get ids.now place }
+{
+    ids.get(place).copied()
 }
 
 /// The first type definition, by modules and rows, that leads back to itself.
@@ -107,7 +130,7 @@ pub fn first_cyclic(
     let numbering = numbering_of(alloc, names)?;
     let graph = graph(alloc, names, &numbering, relation)?;
     match first_on_cycle(alloc, graph.as_slice())? {
-        Some(place) => Ok(numbering.ids().get(place).copied()),
+        Some(place) => Ok(id_at(numbering.ids(), place)),
         None => Ok(None),
     }
 }

@@ -1,4 +1,4 @@
-use Rattle.std.proofs.Common.{◌≡◌, ◌∙◌, ◌-◌, ◌<◌, Bool, true, false, List, ℕ, find, length, ap, sym, arith}
+use Rattle.std.proofs.Common.{◌≡◌, ◌∙◌, ◌-◌, false, List, ℕ, find, length, ap, arith}
 use Rattle.std.specs.List.{range_with_len}
 use Rattle.graph_cycles.specs.Ways.{first_cyclic, is_on_cycle}
 use Rattle.graph_cycles.proofs.First.{first_behind}
