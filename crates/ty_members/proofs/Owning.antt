@@ -1,12 +1,15 @@
 -- Owners that are noted run by run, the last type first.
-use Rattle.std.proofs.Common.{◌≡◌, ◌⊎◌, inl, inr, ◌∙◌, ℕ, suc, ◌+◌, ◌-◌, ◌<◌, ◌≤◌, ◌&&◌, nat_le, nat_lt, Bool, true, false}
-use Rattle.std.proofs.Common.{cond, List, Option, Some, None, find, refl, sym, ap, subst, arith, set, length, get_or}
+use Rattle.std.proofs.Common.{◌≡◌, ◌⊎◌, inl, inr, ◌∙◌, ℕ, zero, suc, ◌+◌, ◌-◌, ◌<◌, ◌≤◌, ◌&&◌, nat_le, nat_lt, Bool, true, false}
+use Rattle.std.proofs.Math.ListN.{set}
+use Rattle.std.proofs.Common.{cond, List, Option, Some, None, find, refl, sym, ap, subst, arith, length, get_or, replicate}
 use Rattle.std.proofs.Common.{get_or-set_same, get_or-set_other, ltb-true, ltb-false, lt-ltb, le-ltb, leb-true, le-leb}
 use Rattle.std.proofs.lemmas.Bool.{cases_eq, cases_lt, cases_Bool, and_right}
 use Rattle.std.specs.List.{range_with_len}
 use Rattle.md_tables.specs.declared.module.Table.{Table}
 use Rattle.ty_names.specs.Definitions.{has_in_run, owner_in, run_begin, run_end, type_count}
-use Rattle.ty_members.specs.Owners.{is_within, noted, owner_or}
+use Rattle.std.specs.Option.{IfSome}
+use Rattle.ty_names.specs.Modules.{row_count}
+use Rattle.ty_members.specs.Owners.{AreOwners, is_within, noted, owner_or}
 
 -- ---- one run
 
@@ -34,11 +37,28 @@ noted_other begin end owner row known ne =
           (le-ltb row end high ∙ sym (le-ltb row (end + 1) (omega (arith, ne))))
     ]
 
--- no row behind those that there are
-pub noted_past : (begin end last owner row known : ℕ) → row < last → last ≤ end
-    → noted begin last owner row known ≡ noted begin end owner row known
-noted_past begin end last owner row known low high =
-    ap (λ b. cond (nat_le begin row && b) owner known) (lt-ltb row last low ∙ sym (lt-ltb row end (omega arith)))
+-- all of the run
+pub noted_end : (begin row end owner r known : ℕ) → end ≤ row → (row ≡ begin) ⊎ (row ≤ end)
+    → noted begin row owner r known ≡ noted begin end owner r known
+noted_end begin row end owner r known past reached = elim reached [
+  | inl e ↦
+      sym (noted_none begin row owner r known (omega arith)) ∙ noted_none begin end owner r known (omega arith)
+  | inr le ↦ let same : row ≡ end = omega arith in ap (λ n. noted begin n owner r known) same
+]
+
+pub noted_more : (begin row owner k known : ℕ) (owners : List ℕ) → begin ≤ row → 1 ≤ row → k < length owners
+    → get_or owners k 0 ≡ noted begin row owner (k + 1) known
+    → get_or (set owners (row - 1) owner) k 0 ≡ noted begin (row + 1) owner (k + 1) known
+noted_more begin row owner k known owners low some within so_far = elim (cases_eq k (row - 1)) [
+  | inl e ↦
+      ap (λ n. get_or (set owners n owner) k 0) (sym e)
+      ∙ get_or-set_same owners k owner 0 within
+      ∙ noted_here begin (row + 1) owner (k + 1) known (omega arith) (omega arith)
+  | inr ne ↦
+      get_or-set_other owners (row - 1) k owner 0 ne
+      ∙ so_far
+      ∙ noted_other begin row owner (k + 1) known (λ e. ne (omega (arith, e)))
+]
 
 -- ---- the first type
 
@@ -82,3 +102,31 @@ module _ (tables : List Table) (column target row : ℕ) where
       let size : type_count tables + 1 - 1 ≡ type_count tables = omega arith in
       ap (λ n. owner_or (first_from test n (type_count tables + 1))) first
       ∙ ap (λ n. owner_or (find test (range_with_len 1 n))) size
+
+-- ---- of one row
+
+owner_first : (test : ℕ → Bool) (from count x : ℕ) → find test (range_with_len from count) ≡ Some x → from ≤ x
+owner_first test from zero x h = absurd (cc)
+owner_first test from (suc count) x h = by (test from) h (owner_first test (from + 1) count x)
+  where
+    by : (b : Bool) → cond b (Some from) (find test (range_with_len (from + 1) count)) ≡ Some x
+        → (find test (range_with_len (from + 1) count) ≡ Some x → from + 1 ≤ x) → from ≤ x
+    by true e behind = let same : from ≡ x = cc in omega arith
+    by false e behind = let w : from + 1 ≤ x = behind e in omega arith
+
+same_owner : (a b : Option ℕ) → owner_or a ≡ owner_or b → IfSome a (λ x. 1 ≤ x) → ((x : ℕ) → b ≡ Some x → 1 ≤ x) → a ≡ b
+same_owner None None e h g = refl
+same_owner None (Some y) e h g = absurd (let w : 1 ≤ y = g y refl in omega arith)
+same_owner (Some x) None e h g = absurd (omega arith)
+same_owner (Some x) (Some y) e h g = ap (λ n. Some n) e
+
+pub owner_is : (tables : List Table) (column target row : ℕ) (owners : List ℕ) (result : Option ℕ)
+    → AreOwners tables column target owners → 1 ≤ row → row ≤ row_count tables target
+    → owner_or result ≡ get_or owners (row - 1) 0 → IfSome result (λ x. 1 ≤ x)
+    → result ≡ owner_in tables column target row
+owner_is tables column target row owners result a some within e h =
+    let next : row - 1 + 1 ≡ row = omega arith in
+    let told : owner_or result ≡ owner_or (owner_in tables column target row) =
+    e ∙ (a.each (row - 1) (omega arith) ∙ ap (λ n. owner_or (owner_in tables column target n)) next) in
+    same_owner result (owner_in tables column target row) told h
+    (λ x. owner_first (has_in_run tables column target row) 1 (type_count tables) x)

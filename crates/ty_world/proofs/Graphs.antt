@@ -1,8 +1,8 @@
 -- Ways in a world are ways in the graph of its numbers.
-use Rattle.std.proofs.Common.{◌≡◌, ◌⊎◌, inl, inr, ◌∙◌, ℕ, zero, suc, ◌+◌, ◌-◌, ◌<◌, ◌≤◌, ◌==◌, ◌||◌, Bool, true, false}
+use Rattle.std.proofs.Common.{◌≡◌, inl, inr, ◌∙◌, ℕ, zero, suc, ◌+◌, ◌-◌, ◌<◌, ◌≤◌, ◌==◌, ◌||◌, Bool, true, false}
 use Rattle.std.proofs.Common.{cond, List, [], ◌∷◌, length, map, get_or, slice_get, All, Option, Some, None, find}
 use Rattle.std.proofs.Common.{refl, sym, ap, subst, arith, take, ◌++◌}
-use Rattle.std.proofs.lemmas.Bool.{cases_Bool, cases_lt}
+use Rattle.std.proofs.lemmas.Bool.{cases_lt}
 use Rattle.std.proofs.lemmas.List.{get_or-map, length-map, map_more}
 use Rattle.std.proofs.lemmas.List.Elements.{All-get_or, All-head, All-tail}
 use Rattle.std.proofs.lemmas.List.FromFn.{get_or-range_with_len}
@@ -11,12 +11,11 @@ use Rattle.std.specs.Option.{option_and_then}
 use Rattle.ty_terms.specs.declared.names.TypeId.{TypeId}
 use Rattle.ty_names.specs.Modules.{World, tables_at}
 use Rattle.ty_names.specs.Definitions.{type_count}
-use Rattle.ty_names.specs.References.{id_of}
 use Rattle.ty_load.specs.Bases.{same_id}
 use Rattle.ty_load.specs.Cycles.{all_ids, first_on_cycle, is_on_cycle, leads_within}
 use Rattle.ty_world.specs.Numbering.{IsDefined}
 use Rattle.graph_cycles.specs.Ways.{first_cyclic, targets, is_on_cycle as is_cyclic, leads_within as leads_in_graph}
-use Rattle.ty_world.specs.Numbering.{start_of, number_of, graph_of}
+use Rattle.ty_world.specs.Numbering.{number_of, graph_of}
 use Rattle.ty_world.proofs.Ids.{all_counted, all_defined, all_numbered, number_tells, number_within, one_number}
 use Rattle.ty_world.proofs.Ids.{start_rises}
 
@@ -94,8 +93,12 @@ module _ (world : World) where
 
   pub number_below : (id : TypeId) → IsDefined world id → number_of world id < length (all_ids world)
   number_below id h =
-      omega (arith, number_within world id h,
-      start_rises world (suc id.module) (length world) (module_within id h), all_counted world)
+      omega (
+        arith,
+        number_within world id h,
+        start_rises world (suc id.module) (length world) (module_within id h),
+        all_counted world,
+      )
 
   same_ids : (a b : TypeId) → (a.module ≡ b.module) × (a.row ≡ b.row) → a ≡ b
   same_ids a b e = λ i. record { «module» = e.0 i; row = e.1 i }

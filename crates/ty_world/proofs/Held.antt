@@ -1,5 +1,5 @@
 -- What a module's tables hold: a type is nested in a type that is there.
-use Rattle.std.proofs.Common.{◌≡◌, ◌⊎◌, inl, inr, ◌∙◌, ℕ, zero, suc, ◌≤◌, ◌==◌, ◌&&◌, nat_le, Bool, true, false, cond}
+use Rattle.std.proofs.Common.{◌≡◌, ℕ, ◌≤◌, ◌==◌, Bool, true, false, cond}
 use Rattle.std.proofs.Common.{List, [], ◌∷◌, length, slice_get, Option, Some, None, find, refl, sym, ap, subst, arith}
 use Rattle.std.proofs.Common.{eqb-true, leb-true}
 use Rattle.std.proofs.lemmas.Bool.{and_parts, false≢true}
@@ -7,7 +7,6 @@ use Rattle.std.specs.List.{list_all}
 use Rattle.std.specs.Option.{option_map}
 use Rattle.md_rows.specs.declared.cell.Cell.{Cell}
 use Rattle.md_rows.specs.declared.cell.Cell.TheVariants.{Number, Name, Blob, Index, Coded}
-use Rattle.md_rows.specs.declared.schema.Column.{Column}
 use Rattle.md_rows.specs.declared.schema.Column.TheVariants.{RowIndex}
 use Rattle.md_rows.specs.Fits.{are_cells, held_tables, is_cell}
 use Rattle.md_rows.specs.Tables.{TableSchema, tables}

@@ -1,11 +1,11 @@
 -- The numbers of type definitions: each has one of its own, and they are 0, 1, 2 and so on.
-use Rattle.std.proofs.Common.{◌≡◌, ◌⊎◌, inl, inr, ◌∙◌, ℕ, zero, suc, ◌+◌, ◌-◌, ◌<◌, ◌≤◌, ◌==◌, ◌&&◌, Bool, true, false}
+use Rattle.std.proofs.Common.{◌≡◌, inl, inr, ◌∙◌, ℕ, zero, suc, ◌+◌, ◌-◌, ◌<◌, ◌≤◌, ◌==◌, true}
 use Rattle.std.proofs.Common.{List, [], ◌∷◌, ◌++◌, length, map, get_or, All, refl, sym, ap, subst, arith, add-one}
 use Rattle.std.proofs.Common.{append-nil, length-append, eqb-true, eq-eqb}
 use Rattle.std.proofs.lemmas.Bool.{and_from, and_parts, cases_Bool, cases_lt, cases_order, false_from_ne_true, false≢true}
 use Rattle.std.proofs.lemmas.List.{get_or_append_left, get_or_at, length-map, map-append}
 use Rattle.std.proofs.lemmas.List.Concat.{flat_map-append, flat_map-cons}
-use Rattle.std.proofs.lemmas.List.Elements.{All-append, All-get_or, All-map, All-nil}
+use Rattle.std.proofs.lemmas.List.Elements.{All-append, All-map, All-nil}
 use Rattle.std.proofs.lemmas.List.FromFn.{get_or-range_with_len, length-range_with_len}
 use Rattle.std.specs.List.{flat_map, range_with_len}
 use Rattle.ty_terms.specs.declared.names.TypeId.{TypeId}

@@ -1,6 +1,6 @@
 -- An earlier place that passes a test that a place passes: the first one that passes it is another.
-use Rattle.std.proofs.Common.{◌≡◌, ◌⊎◌, inl, inr, ◌∙◌, ℕ, zero, suc, ◌+◌, ◌-◌, ◌<◌, ◌≤◌, ◌==◌, ◌||◌, Bool, true, false}
-use Rattle.std.proofs.Common.{cond, not, List, [], ◌∷◌, Option, Some, None, find, refl, sym, ap, subst, arith, eq-eqb, ne_eqb}
+use Rattle.std.proofs.Common.{◌≡◌, inl, inr, ◌∙◌, ℕ, zero, suc, ◌+◌, ◌-◌, ◌<◌, ◌≤◌, ◌||◌, Bool, true, false}
+use Rattle.std.proofs.Common.{cond, not, List, Option, Some, find, refl, sym, ap, arith, eq-eqb, ne_eqb}
 use Rattle.std.proofs.lemmas.Bool.{cases_eq}
 use Rattle.std.specs.List.{list_any, range_with_len}
 use Rattle.std.proofs.lemmas.Slice.Eq.{bytes_eq-Decides}
@@ -28,6 +28,7 @@ module _ (p : ℕ → Bool) (place : ℕ) (passes : p place ≡ true) where
           → is_other place (cond b (Some from) (find p (range_with_len (from + 1) count))) ≡ false
       here e true is = ap not (eq-eqb from place e)
       here e false is = absurd (cc)
+
       behind : (from ≡ place → ⊥) → (b : Bool)
           → is_other place (find p (range_with_len (from + 1) count))
           ≡ list_any p (range_with_len (from + 1) (place - (from + 1)))

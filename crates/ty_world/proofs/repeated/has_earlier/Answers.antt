@@ -1,5 +1,4 @@
-use Rattle.std.proofs.Common.{◌≡◌, ◌∙◌, ℕ, List, Option, Some, ap, sym}
-use Rattle.md_tables.specs.declared.module.Table.{Table}
+use Rattle.std.proofs.Common.{◌≡◌, ◌∙◌, Some, ap, sym}
 use Rattle.ty_names.specs.Modules.{World}
 use Rattle.ty_names.specs.Definitions.{assembly_name}
 use Rattle.ty_load.specs.Valid.{name_at}

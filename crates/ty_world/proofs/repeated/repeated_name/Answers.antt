@@ -1,4 +1,4 @@
-use Rattle.std.proofs.Common.{◌≡◌, ◌∙◌, ◌<◌, false, ℕ, ap, sym, arith}
+use Rattle.std.proofs.Common.{◌≡◌, ◌∙◌, false, ℕ, sym, arith}
 use Rattle.ty_names.specs.Modules.{World, core_of}
 use Rattle.ty_load.specs.Valid.{has_earlier_name, name_at}
 use Rattle.ty_world.proofs.Twice.{first_behind}
