@@ -44,8 +44,8 @@ loop-left-preserved c =
           c.loop-left.invariant.within;
     }
 
-pub returns-after-loop-left : goal.returns-after-loop-left
-returns-after-loop-left c = record {
+pub returns : goal.returns
+returns c = record {
   count = c.loop-left.invariant.size;
   each = λ k h.
       c.loop-left.invariant.known k h

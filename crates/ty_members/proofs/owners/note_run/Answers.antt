@@ -28,8 +28,8 @@ loop-row-preserved c =
           (c.loop-row.invariant.known k h);
     }
 
-pub returns-after-loop-row : goal.returns-after-loop-row
-returns-after-loop-row c = λ k h.
+pub returns : goal.returns
+returns c = λ k h.
     c.loop-row.invariant.known k h
     ∙ noted_end c.args.begin c.loop-row.row c.args.end c.args.owner (k + 1) (slice_index c.args.owners.now k)
     (omega (arith, c.loop-row-test.false)) c.loop-row.invariant.reached
