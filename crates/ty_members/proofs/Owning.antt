@@ -130,3 +130,18 @@ owner_is tables column target row owners result a some within e h =
     e ∙ (a.each (row - 1) (omega arith) ∙ ap (λ n. owner_or (owner_in tables column target n)) next) in
     same_owner result (owner_in tables column target row) told h
     (λ x. owner_first (has_in_run tables column target row) 1 (type_count tables) x)
+
+-- the first place that passes a test
+pub found_here : (p : ℕ → Bool) (place end : ℕ) → place < end → p place ≡ true
+    → find p (range_with_len place (end - place)) ≡ Some place
+found_here p place end h passes =
+    let more : end - place ≡ suc (end - (place + 1)) = omega arith in
+    ap (λ n. find p (range_with_len place n)) more
+    ∙ ap (λ b. cond b (Some place) (find p (range_with_len (place + 1) (end - (place + 1))))) passes
+
+pub first_behind : (p : ℕ → Bool) (place end : ℕ) → place < end → p place ≡ false
+    → find p (range_with_len place (end - place)) ≡ find p (range_with_len (place + 1) (end - (place + 1)))
+first_behind p place end h fails =
+    let more : end - place ≡ suc (end - (place + 1)) = omega arith in
+    ap (λ n. find p (range_with_len place n)) more
+    ∙ ap (λ b. cond b (Some place) (find p (range_with_len (place + 1) (end - (place + 1))))) fails

@@ -2,3 +2,4 @@ pub mod Ids
 pub mod Graphs
 pub mod Held
 pub mod Twice
+pub mod Defined

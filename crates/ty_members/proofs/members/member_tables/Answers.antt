@@ -17,6 +17,6 @@ loop-alloc-preserved c =
     subst (λ (tables : List Table). IsMemberTable tables table) (c.tables_of.ensures ∙ ap (tables_at world) size)
     c.in_ok-table.ensures in
     record {
-      within = omega arith;
+      within = omega (arith, ap length c.modules.ensures, c.in_ok-push.ensures.len, c.len.ensures, c.loop-alloc-test.true);
       told = one_more world members c.push.new.self.items table c.loop-alloc.invariant.told is pushed;
     }
