@@ -3,10 +3,10 @@ use Rattle.std.specs.Prelude.{◌≡◌, ℕ, zero, suc, ◌+◌, ◌-◌, ◌<�
 use Rattle.ty_terms.specs.declared.names.TypeId.{TypeId}
 use Rattle.ty_names.specs.Modules.{World, tables_at}
 use Rattle.ty_names.specs.Definitions.{type_count}
-use Rattle.ty_load.specs.Cycles.{all_ids, is_nested_in}
+use Rattle.ty_load.specs.Cycles.{all_ids, inherits, is_nested_in}
 use Rattle.ty_world.specs.declared.numbering.Numbering.{Numbering}
 use Rattle.ty_world.specs.declared.relations.Relation.{Relation}
-use Rattle.ty_world.specs.declared.relations.Relation.TheVariants.{Nesting}
+use Rattle.ty_world.specs.declared.relations.Relation.TheVariants.{Inheritance, Nesting}
 
 -- a type definition that is there
 abbrev pub IsDefined : World → TypeId → Type 0
@@ -29,6 +29,7 @@ pub record IsNumbering (world : World) (numbering : Numbering) : Type 0 where
 
 -- to what a definition leads
 abbrev pub edges_of : Relation → World → TypeId → List TypeId
+edges_of Inheritance = inherits
 edges_of Nesting = is_nested_in
 
 -- the graph of a relation: for each definition the numbers of those to which it leads

@@ -1,8 +1,11 @@
 //! How type definitions lead to others, and the first that leads back to itself.
-ghost use Rattle.std.specs.Prelude.{◌≡◌, ◌≤◌, ℕ, All, map, slice_get, IfOk};
+ghost use Rattle.std.specs.Option.{option_and_then};
+ghost use Rattle.ty_load.specs.Primitives.{definition_of as definition_in};
+ghost use Rattle.std.specs.Prelude.{◌++◌, OnOk, ◌≡◌, ◌≤◌, ℕ, All, map, slice_get, IfOk};
 ghost use Rattle.ty_names.specs.Definitions.{enclosing, type_count};
 ghost use Rattle.ty_names.specs.Modules.{tables_at};
-ghost use Rattle.ty_load.specs.Cycles.{all_ids, first_on_cycle as first_in, is_nested_in as is_nested_in_world};
+ghost use Rattle.ty_load.specs.Cycles.{all_ids, first_on_cycle as first_in, inherits as inherits_in};
+ghost use Rattle.ty_load.specs.Cycles.{is_nested_in as is_nested_in_world, listed};
 ghost use Rattle.ty_world.specs.Numbering.{IsDefined};
 ghost use Rattle.ty_world.specs.Numbering.{IsNumbering, edges_of, graph_of, number_of};
 
@@ -12,11 +15,14 @@ use md_tables::Module;
 use num_core::{List, Memory};
 use std::alloc::Global;
 use ty_load::Names;
-use ty_terms::TypeId;
+use ty_terms::{Ty, TypeId};
+use ty_walks::{base_of, interface_of};
 
 /// A relation in which a type definition must not lead back to itself.
 #[derive(Clone, Copy, Debug, PartialEq, Eq)]
 pub enum Relation {
+    /// From a type to its base and its interfaces, their arguments left aside (ECMA-335 II.22.37, II.22.23).
+    Inheritance,
     /// From a type to the one in which it is nested (ECMA-335 II.22.32).
     Nesting,
 }
@@ -60,6 +66,47 @@ fn is_nested_in(alloc: Global, names: &Names, id: TypeId) -> Result<Vec<TypeId>,
     Ok(ids)
 }
 
+/// Adds the definition of a type, if it has one.
+fn push_definition(
+    ids: &mut Vec<TypeId>,
+    alloc: Global,
+    names: &Names,
+    ty: Option<Ty>,
+) -> Result<(), Memory>
+    ensures { OnOk result (ids.new.items
+        ≡ ids.old.items ++ listed (option_and_then (definition_in names.now) ty)) }
+{
+    let Some(ty) = ty else {
+        return Ok(());
+    };
+    if let Some(id) = names.definition_of(alloc, &ty)? {
+        ids.push(id)?;
+    }
+    Ok(())
+}
+
+/// In a world each base and each interface has a definition that is there.
+fn inherits_within(names: &Names, id: TypeId)
+    ensures { All (IsDefined names.now) (inherits_in names.now id) }
+{
+}
+
+/// The definitions of the base and the interfaces of a type, their arguments left aside.
+fn inherits(alloc: Global, names: &Names, id: TypeId) -> Result<Vec<TypeId>, Memory>
+    ensures led { IfOk result (λ ids. ids.items ≡ inherits_in names.now id) }
+    ensures defined { IfOk result (λ ids. All (IsDefined names.now) ids.items) }
+{
+    inherits_within(names, id);
+    let mut ids = Vec::new(alloc);
+    let base = base_of(names, alloc, id)?;
+    push_definition(&mut ids, alloc, names, base)?;
+    for index in names.interface_indexes(id) {
+        let interface = interface_of(names, alloc, id, *index)?;
+        push_definition(&mut ids, alloc, names, interface)?;
+    }
+    Ok(ids)
+}
+
 /// The definitions to which one leads.
 fn edges(
     alloc: Global,
@@ -72,6 +119,7 @@ fn edges(
     ensures defined { IfOk result (λ ids. All (IsDefined names.now) ids.items) }
 {
     match relation {
+        Relation::Inheritance => inherits(alloc, names, id),
         Relation::Nesting => is_nested_in(alloc, names, id),
     }
 }
