@@ -2,4 +2,4 @@ pub mod Owning
 pub mod Tables
 pub mod Prefixed
 pub mod Answered
-pub mod Tokens
+pub mod Resolving

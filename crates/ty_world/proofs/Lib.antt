@@ -3,3 +3,4 @@ pub mod Graphs
 pub mod Held
 pub mod Twice
 pub mod Defined
+pub mod Inheriting

@@ -1,13 +1,12 @@
 //! How type definitions lead to others, and the first that leads back to itself.
+ghost use Rattle.std.specs.Prelude.{◌≡◌, ◌++◌, ◌≤◌, ℕ, All, map, slice_get, IfOk, OnOk};
 ghost use Rattle.std.specs.Option.{option_and_then};
-ghost use Rattle.ty_load.specs.Primitives.{definition_of as definition_in};
-ghost use Rattle.std.specs.Prelude.{◌++◌, OnOk, ◌≡◌, ◌≤◌, ℕ, All, map, slice_get, IfOk};
 ghost use Rattle.ty_names.specs.Definitions.{enclosing, type_count};
 ghost use Rattle.ty_names.specs.Modules.{tables_at};
 ghost use Rattle.ty_load.specs.Cycles.{all_ids, first_on_cycle as first_in, inherits as inherits_in};
 ghost use Rattle.ty_load.specs.Cycles.{is_nested_in as is_nested_in_world, listed};
-ghost use Rattle.ty_world.specs.Numbering.{IsDefined};
-ghost use Rattle.ty_world.specs.Numbering.{IsNumbering, edges_of, graph_of, number_of};
+ghost use Rattle.ty_load.specs.Primitives.{definition_of as definition_in};
+ghost use Rattle.ty_world.specs.Numbering.{IsDefined, IsNumbering, edges_of, graph_of, number_of};
 
 use crate::numbering::{Numbering, numbering_of};
 use graph_cycles::first_on_cycle;

@@ -1,7 +1,7 @@
 use Rattle.std.proofs.Common.{◌≡◌, ◌∙◌, ℕ, true, false, ap, sym, eq-eqb, ne_eqb}
 use Rattle.ty_names.specs.Modules.{World}
 use Rattle.ty_load.specs.Tokens.{has_row}
-use Rattle.ty_members.proofs.Tokens.{index_of, told_nothing, told_row, told_text}
+use Rattle.ty_members.proofs.Resolving.{index_of, told_nothing, told_row, told_text}
 use Rattle.ty_members.proofs.members.Members.resolved.Goals as goal
 
 pub returns-then-index-eq112 : goal.returns-then-index-eq112
