@@ -113,6 +113,19 @@ pub no_tables : (world : World) (types : List TypeTable) (number : ℕ) → leng
     → slice_get types number ≡ None → tables_at world number ≡ []
 no_tables world types number same none = ap tables_of (none_there types world number same none)
 
+-- the same of the modules that are seen
+pub not_there : (world now : World) (types : List TypeTable) (number : ℕ) → length types ≡ length world
+    → slice_get types number ≡ None → world ≡ now → tables_at now number ≡ []
+not_there world now types number same none is =
+    sym (ap (λ (w : World). tables_at w number) is) ∙ no_tables world types number same none
+
+pub table_there : (world now : World) (types : List TypeTable) (number : ℕ) (table : TypeTable) (tables : List Table)
+    → AreTypeTables world types → slice_get types number ≡ Some table → world ≡ now → tables ≡ tables_at now number
+    → IsTypeTable tables table
+table_there world now types number table tables told here is same =
+    subst (λ (t : List Table). IsTypeTable t table) (ap (λ (w : World). tables_at w number) is ∙ sym same)
+    (told number table here)
+
 -- ---- numbers of 32 bits
 
 all_numbered : (world : World) → list_all (λ given. has_numbers given.tables) world ≡ true → (number : ℕ)

@@ -1,14 +1,15 @@
 -- Bases and interfaces: II.22.37, II.22.23, and which types are value types: II.13.
 use Rattle.std.specs.Prelude.{ℕ, zero, suc, ◌==◌, ◌&&◌, ◌||◌, Bool, true, false, not, if◌then◌else◌, List}
-use Rattle.std.specs.Prelude.{map, filter, slice_get, codes, Option, Some, None}
+use Rattle.std.specs.Prelude.{map, codes, Option, Some, None}
 use Rattle.std.specs.Option.{option_and_then}
 use Rattle.ty_terms.specs.declared.names.TypeId.{TypeId}
 use Rattle.ty_terms.specs.declared.ty.Ty.{Ty}
 use Rattle.ty_terms.specs.declared.ty.Ty.TheOpen.{Ty-F}
 use Rattle.ty_terms.specs.declared.ty.Ty.TheViews.{out-Ty}
 use Rattle.ty_names.specs.declared.cells.RowOf.{RowOf}
-use Rattle.ty_names.specs.Modules.{World, core_of, tables_at, rows, index_of, coded_of}
+use Rattle.ty_names.specs.Modules.{World, core_of, tables_at}
 use Rattle.ty_names.specs.Definitions.{type_count, type_extends, is_interface, generic_count}
+use Rattle.ty_load.specs.Implements.{implemented}
 use Rattle.ty_load.specs.Primitives.{core_type, system_type, definition_of}
 use Rattle.ty_load.specs.Types.{type_at}
 
@@ -101,9 +102,7 @@ base_of world id = option_and_then (kept_if (may_extend world id) world) (named_
 -- The interfaces that a type definition names, in order of the rows of InterfaceImpl; nothing where a row names no
 -- interface.
 abbrev pub interface_indexes : World → TypeId → List RowOf
-interface_indexes world id =
-    map (λ row. coded_of (slice_get row.cells 1))
-    (filter (λ row. index_of (slice_get row.cells 0) == id.row) (rows (tables_at world id.module) 0x09))
+interface_indexes world id = implemented (tables_at world id.module) id.row
 
 abbrev pub interface_by : World → TypeId → RowOf → Option Ty
 interface_by world id index = option_and_then (kept_if (is_interface_id world) world) (named_by world id index)

@@ -1,5 +1,6 @@
 pub mod TypeKeys
 pub mod Counting
+pub mod Implements
 pub mod Named
 pub mod Primitives
 pub mod Types
@@ -10,6 +11,7 @@ pub mod Valid
 pub mod Members
 pub mod Refusals
 pub mod Tokens
+pub mod Told
 pub mod Walks
 pub mod Classes
 pub mod Finding

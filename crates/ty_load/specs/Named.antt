@@ -1,5 +1,5 @@
 -- What the tables of names say of the modules of a world.
-use Rattle.std.specs.Prelude.{◌≡◌, ℕ, ◌+◌, ◌<◌, ◌≤◌, ◌^◌, ◌&&◌, nat_lt, Bool, List, [], ◌∷◌, Vec, length, slice_get}
+use Rattle.std.specs.Prelude.{◌≡◌, ℕ, ◌+◌, ◌<◌, ◌^◌, ◌&&◌, nat_lt, Bool, true, List, [], ◌∷◌, Vec, length, slice_get}
 use Rattle.std.specs.Prelude.{slice_index, Option, Some}
 use Rattle.std.specs.Global.{Global}
 use Rattle.std.specs.List.{list_all}
@@ -10,15 +10,12 @@ use Rattle.ty_names.specs.Modules.{World, tables_at}
 use Rattle.ty_names.specs.Definitions.{enclosing, type_count}
 use Rattle.ty_names.specs.References.{in_scope}
 use Rattle.ty_load.specs.Counting.{AreCounts, has_numbers}
+use Rattle.ty_load.specs.Implements.{TellInterfaces}
 use Rattle.ty_load.specs.TypeKeys.{TellAssemblies, TellTypes}
 
 -- Modules, and what each has, have numbers of 32 bits.
 abbrev pub are_numbered : World → Bool
 are_numbered world = nat_lt (length world) (2 ^ 32) && list_all (λ given. has_numbers given.tables) world
-
--- a type definition that is there
-abbrev pub IsDefined : World → TypeId → Type 0
-IsDefined world id = (1 ≤ id.row) × (id.row ≤ type_count (tables_at world id.module))
 
 -- The types of a module: what is around each, and their rows by their names.
 pub record IsTypeTable (tables : List Table) (table : TypeTable) : Type 0 where
@@ -26,6 +23,8 @@ pub record IsTypeTable (tables : List Table) (table : TypeTable) : Type 0 where
   pub nested : (k : ℕ) → k < type_count tables → slice_index table.outer k ≡ enclosing tables (k + 1)
   pub told : TellTypes tables table.rows.entries
   pub counts : AreCounts tables table.parameters
+  pub interfaces : TellInterfaces tables table.interfaces.entries
+  pub numbered : has_numbers tables ≡ true
 
 -- the first modules have these tables
 abbrev pub AreTypeTables : World → List TypeTable → Type 0
@@ -35,6 +34,7 @@ AreTypeTables world types =
 -- The modules, each with the table of its types, and the assemblies by their names.
 pub record AreNames (world : World) (types : List TypeTable) (assemblies : List (Vec ℕ Global × ℕ)) : Type 0 where
   pub small : length world < 2 ^ 32
+  pub numbered : are_numbered world ≡ true
   pub count : length types ≡ length world
   pub told : AreTypeTables world types
   pub assembled : TellAssemblies world assemblies

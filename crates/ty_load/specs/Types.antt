@@ -51,16 +51,24 @@ abbrev pub all_types : List (Option Ty) → Option (List Ty)
 all_types [] = Some []
 all_types (ty ∷ rest) = and_all (no_void ty) (all_types rest)
 
+-- a type by its index and its arguments, if they are there; a vector; a managed pointer
+abbrev pub named_with : World → ℕ → ℕ → Option (List Ty) → Option Ty
+named_with world number index args =
+    option_and_then (λ types. option_and_then (instance world types) (indexed world number index)) args
+
+abbrev pub vector_of : Option Ty → Option Ty
+vector_of element = option_map (λ ty. Vector ty) element
+
+abbrev pub by_ref_of : Option Ty → Option Ty
+by_ref_of target = option_map (λ ty. ByRef ty) target
+
 -- one layer of a type, with what each inner type is in its place
-abbrev pub named_step : World → ℕ → ℕ → List (Option Ty) → Option Ty
-named_step world number index args =
-    option_and_then (λ types. option_and_then (instance world types) (indexed world number index)) (all_types args)
 
 abbrev pub resolve_step : World → ℕ → Ty-F (Option Ty) → Option Ty
 resolve_step world number (Ty-F.Prim primitive) = Some (Prim primitive)
-resolve_step world number (Ty-F.Named id args) = named_step world number id.row args
-resolve_step world number (Ty-F.Vector element) = option_map (λ ty. Vector ty) (no_void element)
-resolve_step world number (Ty-F.ByRef target) = option_map (λ ty. ByRef ty) (no_void target)
+resolve_step world number (Ty-F.Named id args) = named_with world number id.row (all_types args)
+resolve_step world number (Ty-F.Vector element) = vector_of (no_void element)
+resolve_step world number (Ty-F.ByRef target) = by_ref_of (no_void target)
 resolve_step world number (Ty-F.Var n) = Some (Var n)
 resolve_step world number (Ty-F.MVar n) = Some (MVar n)
 resolve_step world number Ty-F.Canon = None

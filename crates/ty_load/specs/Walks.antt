@@ -56,12 +56,10 @@ abbrev pub arguments : Ty → List Ty
 arguments ty = arguments_layer (out-Ty ty)
 
 abbrev pub with_arguments : Ty → Result Ty ResolveFault → Result Ty ResolveFault
-with_arguments ty (Err fault) = Err fault
-with_arguments ty (Ok found) = Ok (substituted (arguments ty) [] found)
+with_arguments ty found = and_then found (λ inner. Ok (substituted (arguments ty) [] inner))
 
 abbrev pub base_with : Ty → Result (Option Ty) ResolveFault → Result (Option Ty) ResolveFault
-base_with ty (Err fault) = Err fault
-base_with ty (Ok base) = Ok (option_map (substituted (arguments ty) []) base)
+base_with ty base = and_then base (λ inner. Ok (option_map (substituted (arguments ty) []) inner))
 
 -- what stands above a type: that of a vector is System.Array, and nothing above what has no definition
 abbrev pub base_of_layer : World → Ty → Ty-F Ty → Option TypeId → Result (Option Ty) ResolveFault

@@ -1,21 +1,22 @@
 //! The modules of a world, and which of their types a name leads to.
-ghost use Rattle.std.specs.Prelude.{◌≡◌, ◌+◌, ◌<◌, ◌≤◌, ◌^◌, ℕ, length, take, slice_get, option_copied, true, IfOk};
+ghost use Rattle.std.specs.Prelude.{◌≡◌, ◌<◌, ◌^◌, ℕ, length, take, slice_get, option_copied, true, IfOk};
 ghost use Rattle.std.specs.Option.{option_map};
 ghost use Rattle.std.specs.Str.{bytes_eq};
-ghost use Rattle.ty_names.specs.Definitions.{enclosing as enclosing_in, generic_count};
+ghost use Rattle.ty_names.specs.Definitions.{enclosing as enclosing_in, generic_count, type_count as type_count_in};
 ghost use Rattle.ty_names.specs.Modules.{core_of, tables_at as tables_in};
 ghost use Rattle.ty_load.specs.Counting.{has_numbers as has_numbers_in};
-ghost use Rattle.ty_load.specs.Named.{AreTypeTables, IsDefined, are_numbered as are_numbered_in};
+ghost use Rattle.ty_load.specs.Implements.{implemented};
+ghost use Rattle.ty_load.specs.Named.{AreTypeTables, are_numbered as are_numbered_in};
 ghost use Rattle.ty_names.specs.References as references;
 
 use crate::assembly::{assemblies, tables_at};
-use crate::types::{TypeTable, outer_of, parameters_of, row_named, type_table};
+use crate::types::{TypeTable, interfaces_of, outer_of, parameters_of, row_named, type_table};
 use indexmap::IndexMap;
 use md_tables::{Module, Table};
 use num_core::{List, Memory};
 use std::alloc::Global;
 use std::marker::Model;
-use ty_names::row_count;
+use ty_names::{RowOf, row_count};
 use ty_terms::TypeId;
 
 /// The modules of a world, the core last, which contracts see as the list of them. Types and assemblies are found by
@@ -144,6 +145,20 @@ impl Names {
         self.modules.len().saturating_sub(1) as u32
     }
 
+    /// How many modules there are.
+    pub fn module_count(&self) -> u32
+        ensures { result ≡ length self.now }
+    {
+        self.modules.len() as u32
+    }
+
+    /// How many types a module has.
+    pub fn type_count(&self, module: u32) -> u32
+        ensures { result ≡ type_count_in (tables_in self.now «module») }
+    {
+        row_count(tables_at(self.modules.as_slice(), module as usize), 0x02) as u32
+    }
+
     /// The tables of the module of a number, counted from 0.
     pub fn tables(&self, module: u32) -> &[Table]
         ensures { result.now ≡ tables_in self.now «module» }
@@ -153,23 +168,31 @@ impl Names {
 
     /// The row of the type around a type, or 0 (ECMA-335 II.22.32).
     pub fn enclosing(&self, id: TypeId) -> u32
-        requires { IsDefined self.now id }
         ensures { result ≡ enclosing_in (tables_in self.now id.module) id.row }
     {
         match table_at(self.types.as_slice(), id.module as usize) {
-            Some(table) => outer_of(table, id.row),
+            Some(table) => outer_of(table, self.tables(id.module), id.row),
             None => 0,
         }
     }
 
     /// How many generic parameters a type has (ECMA-335 II.22.20).
     pub fn parameters(&self, id: TypeId) -> u32
-        requires { IsDefined self.now id }
         ensures { result ≡ generic_count (tables_in self.now id.module) 0x02 id.row }
     {
         match table_at(self.types.as_slice(), id.module as usize) {
-            Some(table) => parameters_of(table, id.row),
+            Some(table) => parameters_of(table, self.tables(id.module), id.row),
             None => 0,
+        }
+    }
+
+    /// The interfaces that a type names, each by an index of TypeDefOrRef, in order of rows (ECMA-335 II.22.23).
+    pub fn interface_indexes(&self, id: TypeId) -> &[RowOf]
+        ensures { result.now ≡ implemented (tables_in self.now id.module) id.row }
+    {
+        match table_at(self.types.as_slice(), id.module as usize) {
+            Some(table) => interfaces_of(table, id.row),
+            None => &[],
         }
     }
 
@@ -194,7 +217,7 @@ impl Names {
     }
 
     /// The first module in front of the core whose assembly has this name.
-    fn handed_in(&self, name: &[u8]) -> Option<u32>
+    pub fn handed_in(&self, name: &[u8]) -> Option<u32>
         ensures { result ≡ references.handed_in self.now name.now }
     {
         self.found.get(name).copied()

@@ -1,26 +1,14 @@
 //! How many generic parameters types have (ECMA-335 II.22.20).
 ghost use Rattle.std.specs.Prelude.{◌≡◌, ◌+◌, ◌<◌, ◌^◌, ℕ, length, replicate, slice_get, slice_index, count_by, IfOk};
 ghost use Rattle.ty_names.specs.Modules.{coded_of as coded_in, row_count as count_in};
+ghost use Rattle.ty_names.specs.Definitions.{generic_count, is_row_of};
 ghost use Rattle.ty_load.specs.Counting.{AreCounts, counted, is_of};
 
-use md_rows::Cell;
+use crate::cells::coded_of;
 use md_tables::{Table, TableRow};
 use num_core::{List, Memory};
 use std::alloc::Global;
-use ty_names::{RowOf, row_count, rows};
-
-/// The row in a column of several tables, or row 0 of table 0 where there is none.
-fn coded_of(row: &TableRow, column: usize) -> RowOf
-    ensures { result ≡ coded_in (slice_get row.now.cells column) }
-{
-    match row.cells.get(column) {
-        Some(Cell::Coded(table, row)) => RowOf {
-            table: *table,
-            row: *row,
-        },
-        _ => RowOf { table: 0, row: 0 },
-    }
-}
+use ty_names::{row_count, rows};
 
 /// Counts a row of GenericParam for the type that has it.
 fn count(counts: &mut [u32], parameter: &TableRow)
@@ -55,4 +43,21 @@ pub(crate) fn parameter_counts(alloc: Global, tables: &[Table]) -> Result<List<u
     counts.resize(row_count(tables, 0x02), 0)?;
     count_all(counts.as_mut_slice(), rows(tables, 0x2A));
     List::from_slice(alloc, counts.as_slice())
+}
+
+/// Whether a row of GenericParam is one of a type.
+fn is_parameter_of(parameter: &TableRow, row: u32) -> bool
+    ensures { result ≡ is_row_of (coded_in (slice_get parameter.now.cells 2)) 0x02 row }
+{
+    let owner = coded_of(parameter, 2);
+    owner.table == 0x02 && owner.row == row
+}
+
+/// How many generic parameters a type has, by going through all of them.
+pub(crate) fn parameters_among(tables: &[Table], row: u32) -> u32
+    requires { count_in tables.now 0x2A < 2 ^ 32 }
+    ensures { result ≡ generic_count tables.now 0x02 row }
+{
+    let parameters = rows(tables, 0x2A).iter();
+    parameters.filter(|parameter| is_parameter_of(parameter, row)).count() as u32
 }

@@ -1,13 +1,13 @@
 //! The types of the core that have an element type of their own (ECMA-335 II.23.1.16).
-ghost use Rattle.std.specs.Prelude.{◌≡◌, find};
+ghost use Rattle.std.specs.Prelude.{◌≡◌, IfOk, find};
 ghost use Rattle.std.specs.Str.{bytes_eq};
 ghost use Rattle.ty_names.specs.Definitions.{enclosing};
-ghost use Rattle.ty_load.specs.Named.{IsDefined};
 ghost use Rattle.ty_load.specs.Primitives as definitions;
 
 use crate::names::{Names, is_same};
 use md_tables::Table;
-use num_core::List;
+use num_core::{List, Memory};
+use std::alloc::Global;
 use ty_names::{type_name, type_namespace};
 use ty_terms::{Primitive, Ty, TypeId};
 
@@ -87,7 +87,6 @@ fn primitive_in(tables: &[Table], outer: u32, row: u32) -> Option<Primitive>
 impl Names {
     /// The primitive type that a definition is, if it is one.
     fn primitive_of(&self, id: TypeId) -> Option<Primitive>
-        requires { IsDefined self.now id }
         ensures { result ≡ definitions.primitive_of self.now id }
     {
         if id.module == self.core() {
@@ -99,12 +98,42 @@ impl Names {
 
     /// The type of a definition with these arguments. One that has an element type of its own is that.
     pub fn type_of(&self, id: TypeId, args: List<Ty>) -> Ty
-        requires { IsDefined self.now id }
         ensures { result ≡ definitions.type_of self.now id args }
     {
         match self.primitive_of(id) {
             Some(primitive) => Ty::Prim(primitive),
             None => Ty::Named(id, args),
+        }
+    }
+
+    /// The type of the core of a namespace and a name.
+    pub fn core_type(
+        &self,
+        alloc: Global,
+        namespace: &[u8],
+        name: &[u8],
+    ) -> Result<Option<TypeId>, Memory>
+        ensures { IfOk result (λ id. id ≡ definitions.core_type self.now namespace.now name.now) }
+    {
+        self.type_named(alloc, self.core(), 0, namespace, name)
+    }
+
+    /// The type of the core of a name in the namespace System.
+    pub fn system_type(&self, alloc: Global, name: &[u8]) -> Result<Option<TypeId>, Memory>
+        ensures { IfOk result (λ id. id ≡ definitions.system_type self.now name.now) }
+    {
+        self.core_type(alloc, b"System", name)
+    }
+
+    /// The definition of a type; that of a vector is System.Array, and a managed pointer and a variable have none.
+    pub fn definition_of(&self, alloc: Global, ty: &Ty) -> Result<Option<TypeId>, Memory>
+        ensures { IfOk result (λ id. id ≡ definitions.definition_of self.now ty.now) }
+    {
+        match ty {
+            Ty::Prim(primitive) => self.system_type(alloc, primitive_name(*primitive)),
+            Ty::Named(id, _) => Ok(Some(*id)),
+            Ty::Vector(_) => self.system_type(alloc, b"Array"),
+            Ty::ByRef(_) | Ty::Var(_) | Ty::MVar(_) | Ty::Canon => Ok(None),
         }
     }
 }

@@ -1,28 +1,34 @@
 //! The types of a module, found by their names.
-ghost use Rattle.std.specs.Prelude.{◌≡◌, ◌+◌, ◌-◌, ◌<◌, ◌≤◌, ◌^◌, ℕ, length, slice_index, true, IfOk, OnOk};
-ghost use Rattle.ty_names.specs.Definitions.{enclosing as enclosing_in, type_count};
+ghost use Rattle.std.specs.Prelude.{◌≡◌, ◌+◌, ◌<◌, ◌^◌, ℕ, length, slice_index, true, IfOk, OnOk, find};
+ghost use Rattle.std.specs.Prelude.{option_copied};
+ghost use Rattle.ty_names.specs.Definitions.{enclosing as enclosing_in, generic_count, is_nested_row, type_count};
+ghost use Rattle.ty_names.specs.Modules.{rows as rows_in};
 ghost use Rattle.ty_load.specs.Counting.{has_numbers};
+ghost use Rattle.ty_load.specs.Implements.{indexes_in};
 ghost use Rattle.ty_load.specs.Named.{IsTypeTable};
 ghost use Rattle.ty_names.specs.References.{type_row};
 ghost use Rattle.ty_load.specs.TypeKeys.{TellType, TellTypes, row_in};
 
-use crate::parameters::parameter_counts;
+use crate::cells::index_of;
+use crate::interfaces::interfaces_by_type;
+use crate::parameters::{parameter_counts, parameters_among};
 use indexmap::IndexMap;
-use md_tables::Table;
+use md_tables::{Table, TableRow};
 use num_core::{List, Memory};
 use std::alloc::Global;
-use ty_names::{enclosers, type_name, type_namespace};
+use ty_names::{RowOf, enclosers, rows, type_name, type_namespace};
 
 /// A key of a type: the row of the type around it or 0, its namespace and its name.
 type TypeKey = (u32, Vec<u8>, Vec<u8>);
 
-/// The types of a module: the row of the type around each or 0, how many generic parameters each has, and their rows by
-/// their keys.
+/// The types of a module: the row of the type around each or 0, how many generic parameters each has, their rows by
+/// their keys, and the interfaces that each names.
 #[derive(Drop)]
 pub(crate) struct TypeTable {
     outer: List<u32>,
     parameters: List<u32>,
     rows: IndexMap<TypeKey, u32>,
+    interfaces: IndexMap<u32, Vec<RowOf>>,
 }
 
 /// The key of these parts.
@@ -84,11 +90,13 @@ pub(crate) fn type_table(alloc: Global, tables: &[Table]) -> Result<TypeTable, M
 {
     let outer = enclosers(alloc, tables)?;
     let parameters = parameter_counts(alloc, tables)?;
-    let rows = type_rows(alloc, tables, outer.as_slice())?;
+    let named = type_rows(alloc, tables, outer.as_slice())?;
+    let interfaces = interfaces_by_type(alloc, rows(tables, 0x09))?;
     Ok(TypeTable {
         outer,
         parameters,
-        rows,
+        rows: named,
+        interfaces,
     })
 }
 
@@ -106,18 +114,55 @@ pub(crate) fn row_named(
     Ok(table.rows.get(&key).copied())
 }
 
-/// The row of the type around a type, or 0.
-pub(crate) fn outer_of(table: &TypeTable, row: u32) -> u32
-    requires range { (1 ≤ row) × (row ≤ length table.now.outer) }
-    ensures { result ≡ slice_index table.now.outer (row - 1) }
+/// The first row of NestedClass that has a type, by going through all of them.
+fn nested_row(tables: &[Table], row: u32) -> Option<&TableRow>
+    ensures { option_copied result ≡ find (is_nested_row row) (rows_in tables.now 0x29) }
 {
-    table.outer.as_slice()[row as usize - 1]
+    rows(tables, 0x29).iter().find(|nested| index_of(nested, 0) == row)
+}
+
+/// The row of the type around a type or 0, by going through all nested types.
+fn outer_among(tables: &[Table], row: u32) -> u32
+    ensures { result ≡ enclosing_in tables.now row }
+{
+    match nested_row(tables, row) {
+        Some(nested) => index_of(nested, 1),
+        None => 0,
+    }
+}
+
+/// The row of the type around a type, or 0.
+pub(crate) fn outer_of(table: &TypeTable, tables: &[Table], row: u32) -> u32
+    requires { IsTypeTable tables.now table.now }
+    ensures { result ≡ enclosing_in tables.now row }
+{
+    let at = row as usize;
+    if 1 <= at && at <= table.outer.len() {
+        table.outer.as_slice()[at - 1]
+    } else {
+        outer_among(tables, row)
+    }
 }
 
 /// How many generic parameters a type has.
-pub(crate) fn parameters_of(table: &TypeTable, row: u32) -> u32
-    requires range { (1 ≤ row) × (row ≤ length table.now.parameters) }
-    ensures { result ≡ slice_index table.now.parameters (row - 1) }
+pub(crate) fn parameters_of(table: &TypeTable, tables: &[Table], row: u32) -> u32
+    requires { IsTypeTable tables.now table.now }
+    ensures { result ≡ generic_count tables.now 0x02 row }
 {
-    table.parameters.as_slice()[row as usize - 1]
+    let at = row as usize;
+    if 1 <= at && at <= table.parameters.len() {
+        table.parameters.as_slice()[at - 1]
+    } else {
+        parameters_among(tables, row)
+    }
+}
+
+/// The interfaces that a type names.
+pub(crate) fn interfaces_of(table: &TypeTable, row: u32) -> &[RowOf]
+    ensures { result.now ≡ indexes_in table.now.interfaces.entries row }
+{
+    match table.interfaces.get(&row) {
+        Some(indexes) => indexes.as_slice(),
+        None => &[],
+    }
 }

@@ -1,4 +1,4 @@
-ghost use Rattle.std.specs.Prelude.{◌≡◌, IfOk, IsTrue, length, map};
+ghost use Rattle.std.specs.Prelude.{◌≡◌, IfOk, map, slice_index_or};
 ghost use Rattle.std.specs.List.{list_all};
 ghost use Rattle.ty_terms.specs.Subst.{substituted, has_variables_below};
 
@@ -35,10 +35,21 @@ pub fn all_variables_below(types: &[Ty], owner: usize, method: usize) -> bool
     true
 }
 
-/// The type with the arguments of the owner for `Var` and those of the method for `MVar`.
+/// The argument of a number, or the variable that asks for it where there are fewer.
+fn argument(alloc: Global, args: &[Ty], number: u32, variable: Ty) -> Result<Ty, Memory>
+    ensures { IfOk result (λ ty. ty ≡ slice_index_or args.now number variable) }
+{
+    if (number as usize) < args.len() {
+        args[number as usize].copy(alloc)
+    } else {
+        Ok(variable)
+    }
+}
+
+/// The type with the arguments of the owner for `Var` and those of the method for `MVar`. A variable past its list
+/// stays.
 #[cycle(subst)]
 pub fn subst(alloc: Global, ty: &Ty, owner: &List<Ty>, method: &List<Ty>) -> Result<Ty, Memory>
-    requires in_lists { IsTrue (has_variables_below (length owner.now) (length method.now) ty.now) }
     ensures { IfOk result (λ ty'. ty' ≡ substituted owner.now method.now ty.now) }
 {
     match ty {
@@ -55,8 +66,8 @@ pub fn subst(alloc: Global, ty: &Ty, owner: &List<Ty>, method: &List<Ty>) -> Res
             let target = subst(alloc, target.get(), owner, method)?;
             Ok(Ty::ByRef(Boxed::new(alloc, target)?))
         }
-        Ty::Var(number) => owner.as_slice()[*number as usize].copy(alloc),
-        Ty::MVar(number) => method.as_slice()[*number as usize].copy(alloc),
+        Ty::Var(number) => argument(alloc, owner.as_slice(), *number, Ty::Var(*number)),
+        Ty::MVar(number) => argument(alloc, method.as_slice(), *number, Ty::MVar(*number)),
         Ty::Canon => Ok(Ty::Canon),
     }
 }
@@ -69,7 +80,6 @@ pub fn subst_all(
     owner: &List<Ty>,
     method: &List<Ty>,
 ) -> Result<List<Ty>, Memory>
-    requires in_lists { IsTrue (list_all (has_variables_below (length owner.now) (length method.now)) types.now) }
     ensures { IfOk result (λ types'. types' ≡ map (substituted owner.now method.now) types.now) }
 {
     let mut done = List::new(alloc);

@@ -16,6 +16,7 @@ invariant_of-result c =
     let n : IsNumbered c.args.modules = numbered c.args.modules c.requires in
     record {
       small = n.modules;
+      numbered = c.requires;
       count = c.in_ok-types.ensures.count ∙ ap length c.as_slice.ensures;
       told =
           subst (λ (w : World). AreTypeTables w c.in_ok-types.types.items) c.as_slice.ensures

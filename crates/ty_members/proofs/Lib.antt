@@ -1,0 +1,5 @@
+pub mod Owning
+pub mod Tables
+pub mod Prefixed
+pub mod Answered
+pub mod Resolving

@@ -1,0 +1,6 @@
+pub mod Ids
+pub mod Graphs
+pub mod Held
+pub mod Twice
+pub mod Defined
+pub mod Inheriting
