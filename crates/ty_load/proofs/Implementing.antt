@@ -1,5 +1,5 @@
 -- Interfaces by the types that name them: one more, and all of so many rows.
-use Rattle.std.proofs.Common.{◌≡◌, ◌∙◌, ◌+◌, ◌<◌, ◌++◌, ◌∷◌, [], ℕ, Bool, true, false, cond, List, Vec, Option, Some}
+use Rattle.std.proofs.Common.{◌≡◌, ◌∙◌, ◌+◌, ◌<◌, ◌++◌, ◌∷◌, [], ℕ, Bool, true, false, cond, List, Vec, Some}
 use Rattle.std.proofs.Common.{Global, refl, ap, sym, map, filter, take, get_or, length, nat_eq, eqb-true, slice_get}
 use Rattle.std.proofs.Common.{append-nil}
 use Rattle.std.proofs.lemmas.List.{map-append}

@@ -59,5 +59,7 @@ pub(crate) fn parameters_among(tables: &[Table], row: u32) -> u32
     ensures { result ≡ generic_count tables.now 0x02 row }
 {
     let parameters = rows(tables, 0x2A).iter();
-    parameters.filter(|parameter| is_parameter_of(parameter, row)).count() as u32
+    parameters
+        .filter(|parameter| is_parameter_of(parameter, row))
+        .count() as u32
 }

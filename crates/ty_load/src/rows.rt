@@ -39,7 +39,8 @@ impl Names {
         method: usize,
         blob: &[u8],
     ) -> Result<Option<Ty>, Memory>
-        ensures { IfOk result (λ ty. ty ≡ types.type_if_read self.now «module» owner method (type_blob «module» blob.now)) }
+        ensures { IfOk result (λ ty. ty ≡
+            types.type_if_read self.now «module» owner method (type_blob «module» blob.now)) }
     {
         match type_of_blob(alloc, blob, module) {
             Ok(ty) => self.resolved_type(alloc, module, owner, method, &ty),

@@ -118,7 +118,9 @@ pub(crate) fn row_named(
 fn nested_row(tables: &[Table], row: u32) -> Option<&TableRow>
     ensures { option_copied result ≡ find (is_nested_row row) (rows_in tables.now 0x29) }
 {
-    rows(tables, 0x29).iter().find(|nested| index_of(nested, 0) == row)
+    rows(tables, 0x29)
+        .iter()
+        .find(|nested| index_of(nested, 0) == row)
 }
 
 /// The row of the type around a type or 0, by going through all nested types.

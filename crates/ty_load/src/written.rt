@@ -96,7 +96,12 @@ fn by_ref(alloc: Global, target: Option<Ty>) -> Result<Option<Ty>, Memory>
 
 /// The type that a module writes, which may be System.Void.
 #[cycle(resolved)]
-pub(crate) fn resolved(names: &Names, alloc: Global, module: u32, ty: &Ty) -> Result<Option<Ty>, Memory>
+pub(crate) fn resolved(
+    names: &Names,
+    alloc: Global,
+    module: u32,
+    ty: &Ty,
+) -> Result<Option<Ty>, Memory>
     ensures { IfOk result (λ found. found ≡ definitions.resolved names.now «module» ty.now) }
 {
     match ty {
@@ -127,7 +132,8 @@ pub(crate) fn all_resolved(
     module: u32,
     types: &[Ty],
 ) -> Result<Option<List<Ty>>, Memory>
-    ensures { IfOk result (λ found. found ≡ definitions.all_types (map (definitions.resolved names.now «module») types.now)) }
+    ensures { IfOk result (λ found. found ≡
+        definitions.all_types (map (definitions.resolved names.now «module») types.now)) }
 {
     let mut done = List::new(alloc);
     for ty in types {

@@ -1,2 +1,3 @@
 pub mod Walking
 pub mod Listed
+pub mod Knowing

@@ -1,15 +1,15 @@
 -- The definitions of modules, one after another.
-use Rattle.std.proofs.Common.{◌≡◌, ◌∙◌, ◌+◌, ◌∷◌, ◌++◌, [], ℕ, zero, suc, Bool, List, ap, sym, arith, append-nil, map}
+use Rattle.std.proofs.Common.{◌≡◌, ◌∙◌, ◌+◌, ◌∷◌, ◌++◌, [], ℕ, zero, suc, Bool, List, ap, arith, append-nil}
 use Rattle.std.proofs.Common.{filter, length, length-append}
 use Rattle.std.proofs.lemmas.List.Concat.{flat_map-append}
 use Rattle.std.proofs.lemmas.List.Elements.{filter-append}
-use Rattle.std.proofs.lemmas.List.FromFn.{filter_of_map_range_with_len_more, length-map-range_with_len}
+use Rattle.std.proofs.lemmas.List.FromFn.{length-map-range_with_len}
 use Rattle.std.specs.List.{flat_map, range_with_len}
 use Rattle.ty_terms.specs.declared.names.TypeId.{TypeId}
 use Rattle.ty_names.specs.Modules.{World, tables_at}
 use Rattle.ty_names.specs.Definitions.{type_count}
 use Rattle.ty_names.specs.References.{id_of}
-use Rattle.ty_load.specs.Cycles.{all_ids, ids_of}
+use Rattle.ty_load.specs.Cycles.{ids_of}
 
 range_more : (from count at : ℕ) → from + count ≡ at
     → range_with_len from (count + 1) ≡ range_with_len from count ++ at ∷ []
@@ -38,6 +38,7 @@ counted_more world count =
     (length-map-range_with_len (id_of count) 1 (type_count (tables_at world count)))
 
 pub filtered_more : (test : TypeId → Bool) (world : World) (count : ℕ)
-    → filter test (first_ids world (count + 1)) ≡ filter test (first_ids world count) ++ filter test (ids_of world count)
+    → filter test (first_ids world (count + 1))
+    ≡ filter test (first_ids world count) ++ filter test (ids_of world count)
 filtered_more test world count =
     ap (filter test) (one_module_more world count) ∙ filter-append test (first_ids world count) (ids_of world count)

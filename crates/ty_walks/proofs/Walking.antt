@@ -1,7 +1,6 @@
 -- One step of each walk, over plain values.
 use Rattle.std.proofs.Common.{◌≡◌, ◌∙◌, ◌+◌, ◌∷◌, ◌&&◌, ◌||◌, [], ℕ, suc, Bool, true, false, cond, List, map}
 use Rattle.std.proofs.Common.{Option, Some, None, Result, Ok, Err, refl, ap, sym, subst, nat_eq, add-one}
-use Rattle.std.proofs.Common.{if◌then◌else◌}
 use Rattle.ty_terms.specs.declared.names.TypeId.{TypeId}
 use Rattle.ty_terms.specs.declared.ty.Primitive.{Primitive}
 use Rattle.ty_terms.specs.declared.ty.Ty.{Ty}

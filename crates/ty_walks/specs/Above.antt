@@ -1,5 +1,5 @@
 -- What stands above a type, by the definition that it has.
-use Rattle.std.specs.Prelude.{ℕ, Bool, false, true, if◌then◌else◌, ◌||◌, ◌&&◌, List, [], codes, map, Option, Some, None}
+use Rattle.std.specs.Prelude.{ℕ, Bool, true, if◌then◌else◌, ◌||◌, ◌&&◌, List, [], codes, map, Option, Some, None}
 use Rattle.std.specs.Prelude.{Result, Ok}
 use Rattle.std.specs.Option.{option_map}
 use Rattle.ty_terms.specs.declared.names.TypeId.{TypeId}
@@ -9,7 +9,7 @@ use Rattle.ty_terms.specs.declared.ty.Ty.TheViews.{out-Ty}
 use Rattle.ty_names.specs.declared.cells.RowOf.{RowOf}
 use Rattle.ty_names.specs.Modules.{World}
 use Rattle.ty_load.specs.declared.fault.ResolveFault.{ResolveFault}
-use Rattle.ty_load.specs.Bases.{interface_indexes, is_interface_id}
+use Rattle.ty_load.specs.Bases.{is_interface_id}
 use Rattle.ty_load.specs.Members.{same_type}
 use Rattle.ty_load.specs.Primitives.{name_of_primitive, system_type, type_of}
 use Rattle.ty_load.specs.Walks.{any_of, base_by, base_with, fits_within, interface_types, is_object_layer}
@@ -58,7 +58,8 @@ vectors_fit left world from to = vector_fits world (fits_within left world) (out
 -- whether a type fits but for its base, by walks over so many types at most
 abbrev pub fits_beside : ℕ → World → Ty → Ty → Result Bool ResolveFault
 fits_beside left world from to =
-    if fits_at_once from to then Ok true else or_then (vectors_fit left world from to) (interfaces_fit left world from to)
+    if fits_at_once from to then Ok true
+    else or_then (vectors_fit left world from to) (interfaces_fit left world from to)
 
 -- the element type of a vector
 abbrev pub element_layer : Ty-F Ty → Option Ty

@@ -188,13 +188,7 @@ fn fits_beside(
 
 /// One type of a walk.
 #[cycle(fits)]
-fn walk(
-    names: &Names,
-    alloc: Global,
-    left: usize,
-    from: &Ty,
-    to: &Ty,
-) -> Result<Step, TypeFault>
+fn walk(names: &Names, alloc: Global, left: usize, from: &Ty, to: &Ty) -> Result<Step, TypeFault>
     ensures { IsStep names.now left to.now result (walks.fits_within (left + 1) names.now from.now to.now) }
 {
     match fits_beside(names, alloc, left, from, to) {
@@ -210,13 +204,7 @@ fn walk(
 
 /// Whether a type fits another, by a walk over so many types at most.
 #[cycle(fits)]
-fn fits(
-    names: &Names,
-    alloc: Global,
-    left: usize,
-    from: Ty,
-    to: &Ty,
-) -> Result<bool, TypeFault>
+fn fits(names: &Names, alloc: Global, left: usize, from: Ty, to: &Ty) -> Result<bool, TypeFault>
     ensures { IsToldIn names.now result (walks.fits_within left names.now from to.now) }
 {
     let mut at = from;
@@ -233,7 +221,7 @@ fn fits(
 }
 
 /// How many definitions the modules have.
-fn definition_count(names: &Names) -> usize
+pub fn definition_count(names: &Names) -> usize
     ensures count { result ≡ length (all_ids names.now) }
     ensures few { result + 2 ^ 32 < 2 ^ 64 }
 {

@@ -111,12 +111,7 @@ fn is_closed(names: &Names, alloc: Global, id: TypeId) -> Result<bool, Memory>
 }
 
 /// Whether what an interface extends is System.Object; any other definition suits.
-fn suits_interface(
-    names: &Names,
-    alloc: Global,
-    id: TypeId,
-    base: TypeId,
-) -> Result<bool, Memory>
+fn suits_interface(names: &Names, alloc: Global, id: TypeId, base: TypeId) -> Result<bool, Memory>
     ensures { IfOk result (λ suits. suits ≡ bases.suits_interface names.now id base) }
 {
     let is_object = is_system_type(names, alloc, base, b"Object")?;

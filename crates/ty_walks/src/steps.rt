@@ -102,12 +102,7 @@ pub fn base_by(names: &Names, alloc: Global, id: TypeId) -> Result<Option<Ty>, T
 }
 
 /// An interface that a definition names by an index, in its own variables, or why it names none.
-pub fn interface_by(
-    names: &Names,
-    alloc: Global,
-    id: TypeId,
-    index: RowOf,
-) -> Result<Ty, TypeFault>
+pub fn interface_by(names: &Names, alloc: Global, id: TypeId, index: RowOf) -> Result<Ty, TypeFault>
     ensures { IsToldIn names.now result (walks.named_if (is_interface_in names.now) names.now id index) }
 {
     match named_type(names, alloc, id, index) {
@@ -123,12 +118,9 @@ fn with_arguments(alloc: Global, ty: &Ty, inner: &Ty) -> Result<Ty, Memory>
     let none = List::new(alloc);
     match ty {
         Ty::Named(_, args) => subst(alloc, inner, args, &none),
-        Ty::Prim(_)
-        | Ty::Vector(_)
-        | Ty::ByRef(_)
-        | Ty::Var(_)
-        | Ty::MVar(_)
-        | Ty::Canon => subst(alloc, inner, &none, &none),
+        Ty::Prim(_) | Ty::Vector(_) | Ty::ByRef(_) | Ty::Var(_) | Ty::MVar(_) | Ty::Canon => subst(
+            alloc, inner, &none, &none,
+        ),
     }
 }
 

@@ -1,4 +1,4 @@
-use Rattle.std.proofs.Common.{rules, ◌≡◌, ◌∙◌, ◌+◌, ◌<◌, ◌++◌, ◌∷◌, [], ℕ, suc, List, map, length, Option, Some, sym, ap}
+use Rattle.std.proofs.Common.{rules, ◌≡◌, ◌∙◌, ◌+◌, ◌<◌, ◌++◌, ◌∷◌, [], ℕ, List, map, length, Option, Some, sym, ap}
 use Rattle.std.proofs.Common.{arith, add-one}
 use Rattle.ty_terms.specs.declared.ty.Ty.{Ty}
 use Rattle.ty_load.specs.Types.{all_types, no_void, resolved}

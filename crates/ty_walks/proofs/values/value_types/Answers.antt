@@ -8,6 +8,7 @@ use Rattle.ty_walks.proofs.values.value_types.Goals as goal
 pub loop-module-preserved : goal.loop-module-preserved
 loop-module-preserved c =
     c.in_ok-add_values.ensures
-    ∙ ap (λ (l : List TypeId). l ++ filter (is_value_type c.args.names.now) (ids_of c.args.names.now c.loop-module.module))
+    ∙ ap (λ (l : List TypeId). l
+    ++ filter (is_value_type c.args.names.now) (ids_of c.args.names.now c.loop-module.module))
     c.loop-module.invariant
     ∙ sym (filtered_more (is_value_type c.args.names.now) c.args.names.now c.loop-module.module)

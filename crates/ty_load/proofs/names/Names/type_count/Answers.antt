@@ -1,5 +1,4 @@
-use Rattle.std.proofs.Common.{◌≡◌, ◌∙◌, ◌<◌, ◌^◌, ℕ, List, ap, arith}
-use Rattle.md_tables.specs.declared.module.Table.{Table}
+use Rattle.std.proofs.Common.{◌≡◌, ◌∙◌, ◌<◌, ◌^◌, ℕ, ap, arith}
 use Rattle.ty_names.specs.Definitions.{type_count}
 use Rattle.ty_names.specs.Modules.{World, tables_at}
 use Rattle.ty_load.proofs.Counts.{sized}
