@@ -1,16 +1,15 @@
 -- What a change of a state does to the bytes of the heap and of the stack that are used.
-use Rattle.std.proofs.Common.{◌≡◌, ◌∙◌, ℕ, zero, suc, ◌+◌, ◌≤◌, Bool, true, false, nat_le, if◌then◌else◌, List, [], ◌∷◌}
-use Rattle.std.proofs.Common.{length, ◌==◌, Option, Some, None, option_map, Result, Ok, Err, refl, sym, ap, subst, arith}
+use Rattle.std.proofs.Common.{◌≡◌, ℕ, ◌+◌, ◌≤◌, Bool, true, false, nat_le, if◌then◌else◌, List, [], ◌∷◌}
+use Rattle.std.proofs.Common.{length, ◌==◌, Option, Some, None, Result, Ok, Err, refl, sym, ap, subst, arith}
 use Rattle.std.proofs.Common.{le_refl, leb-true, ℤ}
-use Rattle.ty_terms.specs.declared.ty.Ty.{Ty}
 use Rattle.ty_names.specs.Modules.{World}
 use Rattle.il_verify.specs.Raises.{Raised}
 use Rattle.cil_world.specs.Did.{Did, Gives, GoesTo, Raises, RaisesNamed, RaisesOf, Throws, Moves, Triggers, Finishes}
 use Rattle.cil_world.specs.Did.{Ends, Writes, Reads, Cannot, given_if, given_or_raised, written_if}
 use Rattle.cil_world.specs.Did.{on_none, on_one, on_two, on_three, on_reference, on_pointer, on_int32, on_some}
 use Rattle.cil_world.specs.Did.{pushed_if, pushes_frame}
-use Rattle.cil_world.specs.Entering.{bytes_of_frames, bytes_of_running, has_room, has_stack}
-use Rattle.cil_world.specs.State.{CilState, Frame, Setting, frame_changed, top_changed, with_frames}
+use Rattle.cil_world.specs.Entering.{bytes_of_frames, bytes_of_running, has_stack}
+use Rattle.cil_world.specs.State.{CilState, Frame, Setting, frame_changed, top_changed}
 use Rattle.cil_world.specs.Values.{Value, Reference, Pointer}
 
 -- From so many bytes of the heap and these frames to others: what is used of the heap never falls, and neither passes
@@ -140,7 +139,7 @@ module _ (world : World) (setting : Setting) where
       → Keeps world setting used frames used (frame ∷ frames)
   above used frames frame room =
       let fits : bytes_of_frames world frames + bytes_of_running world frame.runs ≤ setting.bounds.stack =
-          leb-true (bytes_of_frames world frames + bytes_of_running world frame.runs) setting.bounds.stack room in
+      leb-true (bytes_of_frames world frames + bytes_of_running world frame.runs) setting.bounds.stack room in
       record { grows = le_refl used; in_heap = λ h. h; on_stack = λ h. omega (arith, fits) }
 
   -- the top frame is gone

@@ -1,10 +1,9 @@
 -- Calls of the runtime, calls and returns, and stubs: what these use of heap and stack.
-use Rattle.std.proofs.Common.{◌≡◌, ℕ, zero, suc, ◌+◌, ◌==◌, ◌&&◌, Bool, true, false, not, nat_le, if◌then◌else◌, List, []}
-use Rattle.std.proofs.Common.{◌∷◌, ◌*◌, length, map, zip, codes, Option, Some, None, option_map, refl, sym, subst, ℤ, pos}
-use Rattle.std.proofs.Common.{negsuc, ap}
-use Rattle.std.specs.Option.{option_and_then, option_map_or}
-use Rattle.std.specs.Prelude.{unwrap_or, slice_get}
-use Rattle.std.specs.List.{list_all}
+use Rattle.std.proofs.Common.{◌≡◌, ℕ, ◌+◌, ◌==◌, ◌&&◌, Bool, true, false, not, nat_le, List, []}
+use Rattle.std.proofs.Common.{◌∷◌, ◌*◌, length, map, zip, Option, Some, None, option_map, refl, sym, subst, ℤ}
+use Rattle.std.proofs.Common.{ap}
+use Rattle.std.specs.Option.{option_and_then}
+use Rattle.std.specs.Prelude.{unwrap_or}
 use Rattle.core_lib.specs.declared.runtime.RuntimeCall.{RuntimeCall}
 use Rattle.core_lib.specs.declared.runtime.RuntimeCall.TheVariants.{ObjectGetType, ObjectGetHashCode, StringGetLength}
 use Rattle.core_lib.specs.declared.runtime.RuntimeCall.TheVariants.{StringGetChars, StringNew, StringSet}
@@ -12,7 +11,6 @@ use Rattle.core_lib.specs.declared.runtime.RuntimeCall.TheVariants.{InitializeAr
 use Rattle.core_lib.specs.declared.runtime.RuntimeCall.TheVariants.{TypeGetType, TypeGetFullName, CreateInstance}
 use Rattle.core_lib.specs.declared.runtime.RuntimeCall.TheVariants.{TypeGetMethod, MethodInvoke}
 use Rattle.ty_layout.specs.Objects.{string_bytes}
-use Rattle.ty_terms.specs.declared.names.FieldName.{FieldName}
 use Rattle.ty_terms.specs.declared.names.MethodName.{MethodName}
 use Rattle.ty_terms.specs.declared.ty.Ty.{Ty}
 use Rattle.ty_names.specs.Modules.{World}
@@ -25,8 +23,8 @@ use Rattle.il_verify.specs.Scope.{Callee, Scope, callee_of, method_token}
 use Rattle.cil_world.specs.CallSteps.{below_top, boxed_call, boxes_and_calls, boxes_unless, call_step, calls, calls_behind}
 use Rattle.cil_world.specs.CallSteps.{calls_constrained, calls_name, calls_on, calls_on_value, dispatched, enters, enters_entry}
 use Rattle.cil_world.specs.CallSteps.{enters_or, enters_unless, kept, makes, makes_unless, may_enter, method_frame}
-use Rattle.cil_world.specs.CallSteps.{new_in_heap, new_value, own_or_boxed, own_target, receiver_for, return_below, return_step}
-use Rattle.cil_world.specs.CallSteps.{returns_to, target_on, virtual_call}
+use Rattle.cil_world.specs.CallSteps.{new_in_heap, new_value, own_or_boxed, own_target, return_below, return_step}
+use Rattle.cil_world.specs.CallSteps.{returns_to, virtual_call}
 use Rattle.cil_world.specs.Comparisons.{is_null}
 use Rattle.cil_world.specs.Contents.{box_bytes, class_bytes, object_fields, size_of, stored, zero_of}
 use Rattle.cil_world.specs.Did.{Did, Ends, pushes_frame}
@@ -34,8 +32,8 @@ use Rattle.cil_world.specs.Entering.{Entry, Unchecked, bytes_of_frames, bytes_of
 use Rattle.cil_world.specs.Entering.{next_object}
 use Rattle.cil_world.specs.Entering.{triggers, with_object}
 use Rattle.cil_world.specs.ObjectSteps.{count_of, element_type, index_of_number, read_at, type_of_object}
-use Rattle.cil_world.specs.RuntimeSteps.{fill_with, filled, full_name_given, handle_field, initialize, invokes_of, keeps}
-use Rattle.cil_world.specs.RuntimeSteps.{is_maker_of, makes_of, may_take, method_behind, method_given, new_string, on_handle}
+use Rattle.cil_world.specs.RuntimeSteps.{fill_with, filled, handle_field, initialize, invokes_of, keeps}
+use Rattle.cil_world.specs.RuntimeSteps.{is_maker_of, may_take, method_behind, method_given, new_string, on_handle}
 use Rattle.cil_world.specs.RuntimeSteps.{nearest_candidates, runtime_call, runtime_step, string_if_room, type_behind, type_given}
 use Rattle.cil_world.specs.RuntimeSteps.{type_named, unit_at, unit_given, unit_set, units_of, unless_null, unless_null_argument}
 use Rattle.cil_world.specs.RuntimeSteps.{with_units}
@@ -43,16 +41,15 @@ use Rattle.cil_world.specs.Statics.{field_bytes, is_plain}
 use Rattle.cil_world.specs.State.{CilState, Code, Frame, Initializes, Invokes, Makes, Making, NewObject as ForObject, NewValue}
 use Rattle.cil_world.specs.State.{Boxed, Fields, Running, Setting, at_offset, begins_at, calls_at, catches_at, change_top}
 use Rattle.cil_world.specs.State.{counts_at, new_frame, returned_at, tests_at, top_changed, triggers_at, waits_at, waits_for}
-use Rattle.cil_world.specs.State.{with_frames}
 use Rattle.cil_world.specs.StubSteps.{begins_making, boxed_below, calls_method, constructs, counts_arguments, elements_of}
 use Rattle.cil_world.specs.StubSteps.{ends_making, gives_below, gives_boxed, gives_result, invokes, invoking_sentence}
 use Rattle.cil_world.specs.StubSteps.{invoking_step, is_abstract, is_called_on, makes_class, makes_value, making_step}
-use Rattle.cil_world.specs.StubSteps.{may_pass_all, missing_method, moves_to, object_of, passed_values, plain_constructor}
-use Rattle.cil_world.specs.StubSteps.{tests_arguments, tests_null, throws_of, vector_of, with_locals}
+use Rattle.cil_world.specs.StubSteps.{may_pass_all, moves_to, object_of, passed_values, plain_constructor}
+use Rattle.cil_world.specs.StubSteps.{throws_of, vector_of, with_locals}
 use Rattle.cil_world.specs.Values.{At, Lying, Made as MadeAs, Nowhere, Null, Pointer, Reference, Value, Values}
-use Rattle.cil_world.proofs.Keeping.{Kept, KeepsState, Keeps, above, and_then, charged, did_then, either, given_kept}
+use Rattle.cil_world.proofs.Keeping.{Kept, KeepsState, Keeps, and_then, charged, did_then, either}
 use Rattle.cil_world.proofs.Keeping.{int32_kept, none_kept, one_kept, popped, pushes_kept, reference_kept, same, same_bytes}
-use Rattle.cil_world.proofs.Keeping.{some_kept, stays, three_kept, top_kept, two_kept}
+use Rattle.cil_world.proofs.Keeping.{some_kept, three_kept, top_kept, two_kept}
 
 -- what a call returns to runs as before
 returned_runs : (world : World) (result : List Value) (runs : Running) (frame : Frame)

@@ -1,12 +1,12 @@
 -- Constants and places, numbers, branches, pointers, fields, vectors and boxes: what these use of heap and stack.
-use Rattle.std.proofs.Common.{◌≡◌, ℕ, ◌+◌, Bool, true, false, not, ◌&&◌, nat_lt, if◌then◌else◌, List, [], ◌∷◌, pos, negsuc}
-use Rattle.std.proofs.Common.{Option, Some, None, option_map, refl, sym, ℤ, length}
+use Rattle.std.proofs.Common.{◌≡◌, ℕ, Bool, true, false, not, ◌&&◌, nat_lt, List, []}
+use Rattle.std.proofs.Common.{Option, Some, None, option_map, refl, sym}
 use Rattle.ty_terms.specs.declared.ty.Ty.{Ty}
 use Rattle.ty_load.specs.declared.item.Item.{Item}
-use Rattle.ty_load.specs.declared.item.Item.TheVariants.{OfType, OfField, OfMethod, OfText}
+use Rattle.ty_load.specs.declared.item.Item.TheVariants.{OfType, OfField}
 use Rattle.ty_names.specs.Modules.{World}
 use Rattle.il_verify.specs.Actions.{PlaceAction, Quiet, Twice, Drop, Read, Write, AddressOf, Number32, Number64, Null}
-use Rattle.il_verify.specs.Actions.{Text, Handle, SizeOf, Constrained, Readonly, Place, NumberAction, BranchAction, Compare}
+use Rattle.il_verify.specs.Actions.{Text, Handle, SizeOf, Constrained, Readonly, NumberAction, BranchAction, Compare}
 use Rattle.il_verify.specs.Actions.{Go, GoUnlessZero, GoIfZero, GoComparing, GoAmong, PointerAction, ReadAs, WriteAs}
 use Rattle.il_verify.specs.Actions.{ReadObject, WriteObject, CopyObject, ClearObject, Access, FieldAction, ReadField}
 use Rattle.il_verify.specs.Actions.{AddressOfField, WriteField, ReadStatic, AddressOfStatic, WriteStatic, VectorAction}
@@ -20,18 +20,18 @@ use Rattle.cil_world.specs.Comparisons.{chosen, holds, is_zero_or_null}
 use Rattle.cil_world.specs.Contents.{box_bytes, elements_bytes, zero_of}
 use Rattle.cil_world.specs.Did.{Did, written_if}
 use Rattle.cil_world.specs.Entering.{has_room, may_lay_out, may_lay_out_value, may_lay_out_statics, is_to_initialize}
-use Rattle.cil_world.specs.ObjectSteps.{address_given, address_in_object, address_in_place, address_of_field, at_element}
-use Rattle.cil_world.specs.ObjectSteps.{at_index, at_static, box_value, boxed_if, boxed_place, cast_class, cast_step}
-use Rattle.cil_world.specs.ObjectSteps.{count_of, element_address, element_loaded, element_place, element_read}
-use Rattle.cil_world.specs.ObjectSteps.{element_type, element_written, field_of_value, field_step, index_of, index_of_number}
-use Rattle.cil_world.specs.ObjectSteps.{instance_of, is_boxed, is_mismatch, length_given, length_step, may_be_element}
-use Rattle.cil_world.specs.ObjectSteps.{may_refer, new_vector, place_of_element, read_at, read_field, static_if}
+use Rattle.cil_world.specs.ObjectSteps.{address_given, address_of_field, at_element}
+use Rattle.cil_world.specs.ObjectSteps.{at_index, at_static, box_value, boxed_if, cast_class, cast_step}
+use Rattle.cil_world.specs.ObjectSteps.{element_address, element_loaded, element_read}
+use Rattle.cil_world.specs.ObjectSteps.{element_type, element_written, field_step, index_of}
+use Rattle.cil_world.specs.ObjectSteps.{is_boxed, is_mismatch, length_given, length_step, may_be_element}
+use Rattle.cil_world.specs.ObjectSteps.{may_refer, new_vector, read_at, read_field, static_if}
 use Rattle.cil_world.specs.ObjectSteps.{static_place, unbox_any, unboxed, vector_if_room, vector_of, vector_step}
 use Rattle.cil_world.specs.ObjectSteps.{with_count, write_at, write_field}
 use Rattle.cil_world.specs.Places.{read_place, read_root, write_place, write_root}
-use Rattle.cil_world.specs.PlaceSteps.{address_at, branch_step, clear_pointer, compared, copied, copy_pointer, goes_if}
+use Rattle.cil_world.specs.PlaceSteps.{branch_step, clear_pointer, compared, copied, copy_pointer, goes_if}
 use Rattle.cil_world.specs.PlaceSteps.{goes_to, handle_of, number_step, place_step, pointer_step, read_as, read_object}
-use Rattle.cil_world.specs.PlaceSteps.{read_pointer, root_of, size_given, size_if, value_in, write_pointer, written_at}
+use Rattle.cil_world.specs.PlaceSteps.{read_pointer, root_of, size_if, value_in, write_pointer}
 use Rattle.cil_world.specs.State.{CilState, Frame, Setting}
 use Rattle.cil_world.specs.Values.{ArgumentOf, At, BoxedIn, ElementOf, FieldOf, LocalOf, Lying, Made as MadeAs, NewValueOf}
 use Rattle.cil_world.specs.Values.{Nowhere, Null as NullReference_, Pointer, Reference, Root, StaticOf, Value}

@@ -1,6 +1,6 @@
 -- Runs use no less of the heap than before, and pass neither bound.
 use Rattle.std.proofs.Common.{◌≡◌, ◌∙◌, ℕ, zero, suc, ◌+◌, ◌-◌, ◌≤◌, ◌==◌, ◌&&◌, Bool, true, false, nat_le, if◌then◌else◌}
-use Rattle.std.proofs.Common.{List, [], ◌∷◌, find, codes, Option, Some, None, Result, Ok, Err, option_map, refl, sym, ap}
+use Rattle.std.proofs.Common.{List, [], ◌∷◌, find, Option, Some, None, Result, Ok, Err, option_map, refl, sym, ap}
 use Rattle.std.proofs.Common.{subst, arith, le_refl, leb-true}
 use Rattle.std.specs.Option.{option_and_then, option_map_or}
 use Rattle.num_core.specs.Run.{Ended, Running as Goes, Stopped, Streams, after, one_more}
@@ -21,14 +21,13 @@ use Rattle.cil_world.specs.Entering.{has_stack, initializer_of, lays_out_frame, 
 use Rattle.cil_world.specs.State.{Begun, CilState, Code, Done, Failed, Frame, Going, Initializes, Initializing, Invokes, Makes}
 use Rattle.cil_world.specs.State.{Phase, Running, Searching, Setting, Unwinding, at_offset, begins_at, calls_at, catches_at}
 use Rattle.cil_world.specs.State.{change_top, initializing, returned_at, waits_at, with_frames, with_initializing}
-use Rattle.cil_world.specs.Step.{CilRun, at_instruction, begins_callee, begins_entry, begins_in, begins_name, begins_with}
-use Rattle.cil_world.specs.Step.{calls_initializer, cil_start, cil_step, core_exception, entry_args, fails_with}
-use Rattle.cil_world.specs.Step.{initializer_fails, initializer_frame, initializer_step, instruction_of, no_frames, performs}
+use Rattle.cil_world.specs.Step.{CilRun, at_instruction, begins_callee, begins_entry, begins_in, begins_name}
+use Rattle.cil_world.specs.Step.{calls_initializer, cil_start, cil_step, entry_args}
+use Rattle.cil_world.specs.Step.{initializer_fails, initializer_step, instruction_of, no_frames, performs}
 use Rattle.cil_world.specs.Step.{performs_in, phase_step, pushes_stub, run_under, running_instruction, running_step}
 use Rattle.cil_world.specs.Step.{stub_returns, tests_initializer, top_step}
-use Rattle.cil_world.specs.StubSteps.{invoking_step, making_step}
-use Rattle.cil_world.specs.Unwinding.{first_test, search_step, unwind_step}
-use Rattle.cil_world.specs.Values.{Reference, Value}
+use Rattle.cil_world.specs.Unwinding.{search_step, unwind_step}
+use Rattle.cil_world.specs.Values.{Value}
 use Rattle.cil_world.proofs.Keeping.{Keeps, KeepsState, Kept, and_then, did_then, popped, same, top_kept}
 use Rattle.cil_world.proofs.KeepingCalls.{enters_entry_kept, invoking_kept, making_kept}
 use Rattle.cil_world.proofs.KeepingSteps.{KeptRun, found_kept, instruction_kept, raises_kept, searched_kept, settles_kept}
@@ -220,7 +219,7 @@ module _ (world : World) (setting : Setting) where
       → cil_step world setting state streams ≡ Goes state' streams' → state.heap ≤ state'.heap
   step_grows state state' streams streams' is =
       let kept : KeepsState world setting state state' =
-          subst (KeptRun world setting state) is (step_kept state streams) in
+      subst (KeptRun world setting state) is (step_kept state streams) in
       kept.grows
 
   -- ---- runs
@@ -266,12 +265,14 @@ module _ (world : World) (setting : Setting) where
     where
       first : CilState
       first = pushed (method_frame world callee.name found (entry_args callee.params)) no_frames
+
       size : bytes_of_running world (Code callee.name) ≡ found.bytes
       size = ap (λ e. option_map_or (λ f. f.bytes) e 0) is
+
       fits : bytes_of_running world (Code callee.name) + 0 ≤ setting.bounds.stack
       fits =
           let enough : 0 + found.bytes ≤ setting.bounds.stack =
-              leb-true (0 + found.bytes) setting.bounds.stack (sym room) in
+          leb-true (0 + found.bytes) setting.bounds.stack (sym room) in
           omega (arith, size, enough)
 
   entry_in_bounds : (callee : Callee) (streams : Streams) (found : Option Entry) → entry world callee.name ≡ found

@@ -1,49 +1,43 @@
 -- A step of a run uses no less of the heap than before, and passes neither bound.
-use Rattle.std.proofs.Common.{◌≡◌, ◌∙◌, ℕ, zero, suc, ◌+◌, ◌-◌, ◌≤◌, ◌==◌, Bool, true, false, nat_le, if◌then◌else◌, List}
-use Rattle.std.proofs.Common.{[], ◌∷◌, length, find, take, drop, map, filter, reverse, codes, Option, Some, None, refl, sym}
-use Rattle.std.proofs.Common.{ap, subst, arith, le_refl, zero-le}
-use Rattle.std.specs.Option.{option_and_then}
-use Rattle.num_core.specs.Run.{Ended, Running as Goes, Stopped, Streams, after, one_more}
-use Rattle.il_code.specs.declared.body.Body.{Body}
+use Rattle.std.proofs.Common.{◌≡◌, ℕ, ◌+◌, ◌-◌, ◌==◌, Bool, true, false, if◌then◌else◌, List}
+use Rattle.std.proofs.Common.{[], ◌∷◌, length, drop, Option, Some, None, refl, sym}
+use Rattle.std.proofs.Common.{ap, subst}
+use Rattle.num_core.specs.Run.{Ended, Running as Goes, Stopped, Streams}
 use Rattle.il_code.specs.declared.body.Instr.{Instr}
-use Rattle.ty_terms.specs.declared.names.MethodName.{MethodName}
 use Rattle.ty_terms.specs.declared.ty.Ty.{Ty}
 use Rattle.ty_names.specs.Modules.{World}
-use Rattle.ty_load.specs.Entry.{entry_of}
 use Rattle.il_verify.specs.Actions.{Action, AtPlaces, ByCalls, ByCasts, ByPointers, EndFinally, ExceptionAction, Leave}
 use Rattle.il_verify.specs.Actions.{OnBranches, OnExceptions, OnFields, OnNumbers, OnVectors, Outside, Rethrow, Throw}
 use Rattle.il_verify.specs.CallRows.{Prefix, is_readonly}
 use Rattle.il_verify.specs.Flow.{action_at, prefix_at, reached_offsets}
 use Rattle.il_verify.specs.Row.{Row}
 use Rattle.il_verify.specs.Rows.{row_of}
-use Rattle.il_verify.specs.Scope.{Callee, Scope, callee_of}
-use Rattle.cil_world.specs.CallSteps.{enters_entry, method_frame}
+use Rattle.il_verify.specs.Scope.{Scope}
 use Rattle.cil_world.specs.Contents.{class_bytes}
 use Rattle.cil_world.specs.Did.{Did, Gives, GoesTo, Raises, RaisesNamed, RaisesOf, Throws, Moves, Triggers, Finishes}
-use Rattle.cil_world.specs.Did.{Ends, Writes, Reads, Cannot, on_some, pushed}
-use Rattle.cil_world.specs.Entering.{Entry, bytes_of_frames, bytes_of_running, entry, has_room, has_stack, initializer_of}
-use Rattle.cil_world.specs.Entering.{next_object, stub_bytes, triggers, with_object}
-use Rattle.cil_world.specs.State.{Begun, CilState, Fields, Code, Done, Failed, Frame, Going, GoTo, CatchIn, Goal}
-use Rattle.cil_world.specs.State.{Initializes, Initializing, Invokes, Makes, Pending, Phase, Running, Searching, Setting}
-use Rattle.cil_world.specs.State.{Unwinding, at_offset, begins_at, calls_at, catches_at, change_top, initializing}
-use Rattle.cil_world.specs.State.{returned_at, top_changed, triggers_at, waits_at, with_frames, with_initializing, with_phase, with_stack}
-use Rattle.cil_world.specs.Step.{CilRun, at_instruction, begins_callee, begins_entry, begins_in, begins_name, begins_with}
-use Rattle.cil_world.specs.Step.{calls_initializer, cil_start, cil_step, core_exception, does, entry_args, exception_step}
-use Rattle.cil_world.specs.Step.{fails_with, initializer_fails, initializer_frame, initializer_step, instruction_of}
-use Rattle.cil_world.specs.Step.{name_of_raised, no_frames, performs, performs_in, phase_step, pushes_stub, raised_if}
-use Rattle.cil_world.specs.Step.{raises_type, run_under, running_instruction, running_step, searched_or, settles, settles_stub}
-use Rattle.cil_world.specs.Step.{stub_returns, taken, tests_initializer, throw_step, throws, top_step, unwound_or, with_inner}
-use Rattle.cil_world.specs.Step.{with_row, zeros}
-use Rattle.cil_world.specs.StubSteps.{invoking_step, making_step}
-use Rattle.cil_world.specs.Unwinding.{end_step, ended_for, ended_goal, entered, found_or_next, goes_on, handlers_in, into_handler}
-use Rattle.cil_world.specs.Unwinding.{leave_step, rethrown, search_begun, search_step, searches_at, unwind_frames, unwind_step}
+use Rattle.cil_world.specs.Did.{Ends, Writes, Reads, Cannot, on_some}
+use Rattle.cil_world.specs.Entering.{Entry, bytes_of_frames, bytes_of_running, has_room, has_stack}
+use Rattle.cil_world.specs.Entering.{next_object, stub_bytes, with_object}
+use Rattle.cil_world.specs.State.{CilState, Fields, Code, Frame, Going, GoTo, CatchIn, Goal}
+use Rattle.cil_world.specs.State.{Initializes, Invokes, Makes, Pending, Running, Setting}
+use Rattle.cil_world.specs.State.{at_offset, change_top}
+use Rattle.cil_world.specs.State.{returned_at, triggers_at, with_frames, with_phase, with_stack}
+use Rattle.cil_world.specs.Step.{CilRun, at_instruction}
+use Rattle.cil_world.specs.Step.{does, exception_step}
+use Rattle.cil_world.specs.Step.{initializer_frame}
+use Rattle.cil_world.specs.Step.{pushes_stub, raised_if}
+use Rattle.cil_world.specs.Step.{raises_type, searched_or, settles, settles_stub}
+use Rattle.cil_world.specs.Step.{taken, throw_step, throws, unwound_or}
+use Rattle.cil_world.specs.Step.{with_row}
+use Rattle.cil_world.specs.Unwinding.{end_step, ended_goal, entered, found_or_next, goes_on, into_handler}
+use Rattle.cil_world.specs.Unwinding.{leave_step, rethrown, search_begun, searches_at, unwind_frames}
 use Rattle.cil_world.specs.Unwinding.{first_test, unwinds, with_pending}
 use Rattle.cil_world.specs.Values.{Null, Reference, Value, Made as MadeAs, Lying}
 use Rattle.cil_world.proofs.Keeping.{Keeps, KeepsIf, KeepsState, Kept, above, and_then, charged, did_then, none_kept, one_kept}
-use Rattle.cil_world.proofs.Keeping.{popped, reference_kept, same, same_bytes, some_kept, stays, top_kept}
+use Rattle.cil_world.proofs.Keeping.{popped, reference_kept, same, same_bytes, some_kept, top_kept}
 use Rattle.cil_world.proofs.KeepingPlaces.{branch_step_kept, cast_step_kept, field_step_kept, number_step_kept}
 use Rattle.cil_world.proofs.KeepingPlaces.{place_step_kept, pointer_step_kept, vector_step_kept}
-use Rattle.cil_world.proofs.KeepingCalls.{call_step_kept, enters_entry_kept, invoking_kept, making_kept}
+use Rattle.cil_world.proofs.KeepingCalls.{call_step_kept}
 
 -- where the run goes on
 abbrev pub KeptRun : World → Setting → CilState → CilRun → Type 0

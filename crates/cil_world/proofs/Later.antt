@@ -12,7 +12,6 @@ use Rattle.il_code.specs.declared.body.Instr.{Instr}
 use Rattle.ty_terms.specs.declared.names.MethodName.{MethodName}
 use Rattle.ty_terms.specs.declared.ty.Ty.{Ty}
 use Rattle.ty_names.specs.Modules.{World}
-use Rattle.il_verify.specs.Scope.{system}
 use Rattle.cil_world.specs.CallSteps.{enters_entry}
 use Rattle.cil_world.specs.Contents.{class_bytes}
 use Rattle.cil_world.specs.Did.{Did, Gives, GoesTo, Raises, RaisesNamed, Throws, Moves, Triggers, Finishes, Ends}

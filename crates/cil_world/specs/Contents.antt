@@ -1,6 +1,6 @@
 -- What places of types begin with, how many bytes they take, and what storing does to a value: ECMA-335 I.12.1.2,
 -- I.12.1.6, II.10.7, II.22.8.
-use Rattle.std.specs.Prelude.{ℕ, zero, suc, ◌+◌, ◌*◌, ◌^◌, pos, List, [], ◌∷◌, map}
+use Rattle.std.specs.Prelude.{ℕ, zero, suc, ◌+◌, ◌*◌, ◌^◌, pos, List, [], map}
 use Rattle.std.specs.Prelude.{length, sum_by, filter_map, Result, Ok, Err}
 use Rattle.std.specs.List.{flat_map}
 use Rattle.std.specs.Option.{option_map_or}

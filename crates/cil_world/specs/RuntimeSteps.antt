@@ -51,7 +51,7 @@ use Rattle.cil_world.specs.Places.{change_object}
 use Rattle.cil_world.specs.State.{CilState, Holding, Setting, Elements, Units, Makes, Invokes, new_frame}
 use Rattle.cil_world.specs.Statics.{field_bytes, is_plain, value_within}
 use Rattle.cil_world.specs.Values.{Value, Values, and, Reference, Null, Made as MadeAs, Lying}
-use Rattle.cil_world.specs.Values.{ImageObject, TextOf, TypeOf, MethodOf, NoWords}
+use Rattle.cil_world.specs.Values.{TextOf, TypeOf, MethodOf}
 
 -- what a method of the core does that has no CIL
 abbrev pub call_of_row : List (ℕ × RuntimeCall) → ℕ → Option RuntimeCall

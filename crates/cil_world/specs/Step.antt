@@ -20,7 +20,7 @@ use Rattle.il_verify.specs.Raises.{Raised, NullReference, IndexOutOfRange, Array
 use Rattle.il_verify.specs.Raises.{DivideByZero}
 use Rattle.il_verify.specs.Row.{Row}
 use Rattle.il_verify.specs.Rows.{row_of}
-use Rattle.il_verify.specs.Scope.{Scope, Callee, callee_of, system}
+use Rattle.il_verify.specs.Scope.{Scope, Callee, callee_of}
 use Rattle.cil_world.specs.CallSteps.{call_step, enters_entry, method_frame}
 use Rattle.cil_world.specs.Contents.{class_bytes, object_fields, zero_of}
 use Rattle.cil_world.specs.Did.{Did, Gives, GoesTo, Raises, RaisesNamed, RaisesOf, Throws, Moves, Triggers, Finishes}

@@ -4,10 +4,9 @@
 use Rattle.std.specs.Prelude.{ℕ, ◌==◌, ◌&&◌, Bool, true, false, not, if◌then◌else◌, List, [], ◌∷◌, codes, find, length}
 use Rattle.std.specs.Prelude.{zip, Option, Some, None}
 use Rattle.std.specs.List.{list_all}
-use Rattle.std.specs.Option.{option_map, option_map_or, option_and_then}
+use Rattle.std.specs.Option.{option_map_or, option_and_then}
 use Rattle.std.specs.Str.{bytes_eq}
 use Rattle.md_sigs.specs.declared.sig.MethodSig.{MethodSig}
-use Rattle.ty_terms.specs.declared.names.MethodId.{MethodId}
 use Rattle.ty_terms.specs.declared.names.MethodName.{MethodName}
 use Rattle.ty_terms.specs.declared.names.TypeId.{TypeId}
 use Rattle.ty_terms.specs.declared.ty.Ty.{Ty}
@@ -28,7 +27,7 @@ use Rattle.cil_world.specs.Entering.{HeapBound, Unchecked, has_room, is_empty, m
 use Rattle.cil_world.specs.Entering.{with_object}
 use Rattle.cil_world.specs.ObjectSteps.{boxed_place, is_boxed, may_refer, read_at}
 use Rattle.cil_world.specs.RuntimeSteps.{argument_wrong, is_maker_of, keeps}
-use Rattle.cil_world.specs.State.{CilState, Frame, Holding, Made, Making, Setting, Boxed, Elements, NewObject, NewValue}
+use Rattle.cil_world.specs.State.{CilState, Frame, Holding, Making, Setting, Boxed, Elements, NewObject, NewValue}
 use Rattle.cil_world.specs.State.{at_offset, begins_at, calls_at, catches_at, change_top, counts_at, returned_at}
 use Rattle.cil_world.specs.State.{tests_at, triggers_at, waits_at, with_frames}
 use Rattle.cil_world.specs.Values.{Value, Reference, Null, Made as MadeAs, Lying}

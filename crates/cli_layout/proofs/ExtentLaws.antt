@@ -1,13 +1,13 @@
 -- What types and value types take, one step at a time.
-use Rattle.std.proofs.Common.{◌≡◌, ◌∙◌, ℕ, zero, suc, ◌≤◌, ◌<◌, max, Bool, true, List, [], ◌∷◌, ◌++◌, map, length, get_or, Result}
-use Rattle.std.proofs.Common.{refl, sym, ap, subst, arith}
+use Rattle.std.proofs.Common.{◌≡◌, ◌∙◌, ℕ, zero, suc, ◌≤◌, ◌<◌, true, List, [], ◌∷◌, ◌++◌, map, length, get_or, Result}
+use Rattle.std.proofs.Common.{sym, ap, subst, arith}
 use Rattle.std.proofs.lemmas.List.Elements.{All-push}
 use Rattle.std.specs.Prelude.{IfOk, if◌then◌else◌}
 use Rattle.num_core.specs.declared.memory.Memory.{Memory}
 use Rattle.ty_terms.specs.declared.names.TypeId.{TypeId}
 use Rattle.ty_terms.specs.declared.ty.Ty.{Ty}
 use Rattle.ty_terms.specs.declared.ty.Ty.TheVariants.{Named}
-use Rattle.ty_terms.specs.Depth.{depth_of, depth_of_all, greatest}
+use Rattle.ty_terms.specs.Depth.{depth_of, depth_of_all}
 use Rattle.ty_terms.specs.Induction.{fold-Named}
 use Rattle.ty_names.specs.Modules.{World}
 use Rattle.ty_load.specs.Bases.{is_value_type}

@@ -2,11 +2,9 @@
 use Rattle.std.proofs.Common.{◌≡◌, ℕ, Bool, true, false, List, [], ◌∷◌, ◌++◌, Result, Ok, Err, refl, ap, sym, append_assoc}
 use Rattle.ty_terms.specs.declared.names.TypeId.{TypeId}
 use Rattle.ty_layout.specs.declared.field.Field.{Field}
-use Rattle.cli_layout.specs.declared.extent.Extent.{Extent}
-use Rattle.cli_layout.specs.declared.extent.Extent.TheVariants.{Known, Unknown}
 use Rattle.cli_layout.specs.declared.extent.Unlaid.{Unlaid}
 use Rattle.cli_layout.specs.declared.extent.Unlaid.TheVariants.{TooLarge, NoBase, NoField}
-use Rattle.cli_layout.specs.Extents.{all_known, both}
+use Rattle.cli_layout.specs.Extents.{both}
 
 -- what is known of those in front
 abbrev pub front : List Field → Bool → Result (List Field) Unlaid

@@ -2,9 +2,8 @@
 use Rattle.std.proofs.Common.{◌≡◌, ◌∙◌, ℕ, zero, suc, List, [], ◌∷◌, map, refl, sym, ap, ap₂}
 use Rattle.std.specs.Prelude.{if◌then◌else◌, slice_index_or}
 use Rattle.ty_terms.specs.declared.names.TypeId.{TypeId}
-use Rattle.ty_terms.specs.declared.ty.Primitive.{Primitive}
 use Rattle.ty_terms.specs.declared.ty.Ty.{Ty}
-use Rattle.ty_terms.specs.declared.ty.Ty.TheVariants.{Prim, Named, Vector, ByRef, Var, MVar, Canon, rolls-Prim}
+use Rattle.ty_terms.specs.declared.ty.Ty.TheVariants.{Prim, Named, Var, MVar, rolls-Prim}
 use Rattle.ty_terms.specs.declared.ty.Ty.TheVariants.{rolls-Named, rolls-Vector, rolls-ByRef, rolls-Canon}
 use Rattle.ty_terms.specs.declared.ty.Ty.TheOpen.{Ty-F}
 use Rattle.ty_terms.specs.Subst.{substituted, subst_step}
@@ -14,7 +13,7 @@ use Rattle.ty_names.specs.Modules.{World}
 use Rattle.ty_load.specs.Bases.{is_value_type}
 use Rattle.cli_layout.specs.declared.extent.Extent.{Extent}
 use Rattle.cli_layout.specs.declared.extent.Extent.TheVariants.{Known}
-use Rattle.cli_layout.specs.Extents.{extent_of, extent_step, extent_with, most_within, primitive_field, reference}
+use Rattle.cli_layout.specs.Extents.{extent_of, extent_step, extent_with, most_within, reference}
 use Rattle.cli_layout.specs.Extents.{value_within}
 
 -- what stands at a place of a list, where each item is changed

@@ -110,7 +110,10 @@ pub are_loaded : (lay : Ty → Result TypeLayout Unlaid) (loaded : List Loaded) 
 are_loaded lay loaded types laid small finds =
     All-weaker (Finds lay loaded) (IsLoaded loaded)
     (λ ty f. record {
-      layout = f.0; found = f.1; laid = laid ty f.0 f.2; small = small_found loaded ty f.0 small f.1
+      layout = f.0;
+      found = f.1;
+      laid = laid ty f.0 f.2;
+      small = small_found loaded ty f.0 small f.1;
     }) types finds
 
 -- ---- what is told by both lists

@@ -141,7 +141,7 @@ module _ (left : ℕ) (world : World) (env : List Extent) (id : TypeId) where
   of_by : (base : Result (Option Ty) ResolveFault) (ty : Ty) → told_base base ≡ Of ty
       → parts_above (parts_within left world) world env id base
       ≡ option_map_or (λ above. parts_within left world above (map (extent_with world env) (arguments ty)))
-          (definition_of world ty) (Ok [])
+      (definition_of world ty) (Ok [])
   of_by (Err fault) ty is = absurd (let h : Missing ≡ Of ty = is in cc)
   of_by (Ok None) ty is = absurd (let h : Nothing ≡ Of ty = is in cc)
   of_by (Ok (Some base)) ty is =

@@ -1,5 +1,5 @@
 -- The layouts of types that are loaded.
-use Rattle.std.specs.Prelude.{◌≡◌, ℕ, All, ◌<◌, ◌≤◌, ◌^◌, length, max, List, [], ◌∷◌, find, fold, Option, Some, None, Result, Ok, Err, unwrap_or}
+use Rattle.std.specs.Prelude.{◌≡◌, ℕ, All, ◌<◌, ◌≤◌, ◌^◌, length, max, List, [], ◌∷◌, find, fold, Option, Some, Result, Ok, Err, unwrap_or}
 use Rattle.std.specs.Prelude.{slice_index_or}
 use Rattle.std.specs.Int.{next_multiple_of}
 use Rattle.std.specs.Option.{option_map}
@@ -7,7 +7,7 @@ use Rattle.std.specs.Ordering.{eq_by_cmp}
 use Rattle.ty_terms.specs.declared.ty.Ty.{Ty}
 use Rattle.ty_terms.specs.Order.{order}
 use Rattle.ty_layout.specs.declared.field.Field.{Field}
-use Rattle.ty_layout.specs.Fields.{AreLaid, bytes_of}
+use Rattle.ty_layout.specs.Fields.{AreLaid}
 use Rattle.ty_names.specs.Modules.{World}
 use Rattle.cli_layout.specs.declared.extent.Unlaid.{Unlaid}
 use Rattle.cli_layout.specs.declared.extent.Unlaid.TheVariants.{TooLarge, NoBase, NoField}

@@ -1,12 +1,11 @@
 -- Where the fields of an object, of a value and of a type's statics lie: ECMA-335 I.12.6.2, II.10.1.2, II.10.7, II.14.2.
-use Rattle.std.specs.Prelude.{ℕ, zero, suc, ◌==◌, nat_le, if◌then◌else◌, List, [], ◌∷◌, ◌++◌, length, map, Option}
+use Rattle.std.specs.Prelude.{ℕ, zero, suc, nat_le, if◌then◌else◌, List, [], ◌∷◌, ◌++◌, map, Option}
 use Rattle.std.specs.Prelude.{Some, None, Result, Ok, Err}
 use Rattle.std.specs.List.{flat_map}
 use Rattle.std.specs.Option.{option_map_or}
 use Rattle.ty_terms.specs.declared.names.TypeId.{TypeId}
 use Rattle.ty_terms.specs.declared.ty.Primitive.{Primitive}
-use Rattle.ty_terms.specs.declared.ty.Primitive.TheVariants.{Void, Boolean, Char, I1, U1, I2, U2, I4, U4, I8, U8}
-use Rattle.ty_terms.specs.declared.ty.Primitive.TheVariants.{String, I, U, Object}
+use Rattle.ty_terms.specs.declared.ty.Primitive.TheVariants.{String, Object}
 use Rattle.ty_terms.specs.declared.ty.Ty.{Ty}
 use Rattle.ty_terms.specs.declared.ty.Ty.TheOpen.{Ty-F}
 use Rattle.ty_terms.specs.declared.ty.Ty.TheViews.{out-Ty}
@@ -21,7 +20,7 @@ use Rattle.ty_load.specs.Walks.{arguments, base_by}
 use Rattle.cli_layout.specs.declared.extent.Extent.{Extent}
 use Rattle.cli_layout.specs.declared.extent.Unlaid.{Unlaid}
 use Rattle.cli_layout.specs.declared.extent.Unlaid.TheVariants.{TooLarge, NoBase}
-use Rattle.cli_layout.specs.Extents.{all_known, both, extent_of, extent_with, most_bytes, most_within}
+use Rattle.cli_layout.specs.Extents.{all_known, both, extent_with, most_bytes, most_within}
 use Rattle.cli_layout.specs.Extents.{primitive_field, rows_extents}
 use Rattle.cli_layout.specs.declared.rows.FieldRow.{FieldRow}
 use Rattle.cli_layout.specs.declared.rows.TypeLayout.{TypeLayout}

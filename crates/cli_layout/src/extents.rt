@@ -179,7 +179,15 @@ fn value<D: Definitions>(
         return Ok(extent);
     }
     let fields = definitions.fields(alloc, id)?;
-    let extents = each_extent(definitions, seen, alloc, left - 1, env, id, fields.as_slice())?;
+    let extents = each_extent(
+        definitions,
+        seen,
+        alloc,
+        left - 1,
+        env,
+        id,
+        fields.as_slice(),
+    )?;
     let extent = value_extent(alloc, extents.as_slice(), definitions.asked(id))?;
     note_seen(seen, alloc, left, id, env, extent)?;
     Ok(extent)
@@ -223,7 +231,14 @@ pub(crate) fn types_extents<D: Definitions>(
     ensures { IfOk result (λ extents. extents ≡ map (extent_with (D.world definitions.now) env.now) types.now) }
 {
     let mut seen = List::new(alloc);
-    extents(definitions, &mut seen, alloc, definitions.count(), env, types)
+    extents(
+        definitions,
+        &mut seen,
+        alloc,
+        definitions.count(),
+        env,
+        types,
+    )
 }
 
 /// What the places of fields of a definition take, whose arguments have these places.
@@ -239,5 +254,13 @@ pub(crate) fn rows_extents<D: Definitions>(
         places.rows_extents (extent_with (D.world definitions.now) env.now) id fields.now) }
 {
     let mut seen = List::new(alloc);
-    each_extent(definitions, &mut seen, alloc, definitions.count(), env, id, fields)
+    each_extent(
+        definitions,
+        &mut seen,
+        alloc,
+        definitions.count(),
+        env,
+        id,
+        fields,
+    )
 }

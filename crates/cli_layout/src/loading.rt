@@ -14,8 +14,7 @@ use num_core::{List, Memory};
 use std::alloc::Global;
 use ty_layout::Layout;
 use ty_layout::laws::fields_are_apart;
-use ty_terms::Ty;
-use ty_terms::type_order;
+use ty_terms::{Ty, type_order};
 
 /// The layouts of types, and of the statics of types, which are loaded once.
 #[derive(Debug, Drop)]

@@ -139,7 +139,6 @@ fn bare(alloc: Global, size: u32) -> TypeLayout
     }
 }
 
-
 /// The object with these parts.
 fn object_with(alloc: Global, parts: &[List<Field>]) -> Result<TypeLayout, Fault>
     ensures told { Tells (layouts.within layouts.itself (layouts.object_with parts.now)) result }

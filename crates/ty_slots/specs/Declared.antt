@@ -1,6 +1,6 @@
 -- Methods as types declare them, and the nearest of a name and a signature: ECMA-335 I.8.10.4, II.9.8, II.22.26.
 use Rattle.std.specs.Prelude.{ℕ, zero, suc, ◌+◌, ◌==◌, ◌&&◌, Bool, if◌then◌else◌, List, [], ◌∷◌, filter, length, map}
-use Rattle.std.specs.Prelude.{Option, Some, None, Result, Ok, Err}
+use Rattle.std.specs.Prelude.{Option, Some, None, Result, Ok}
 use Rattle.std.specs.Option.{option_and_then}
 use Rattle.std.specs.Str.{bytes_eq}
 use Rattle.md_sigs.specs.declared.sig.MethodSig.{MethodSig}
@@ -17,7 +17,7 @@ use Rattle.ty_load.specs.Bases.{has_definition}
 use Rattle.ty_load.specs.Cycles.{all_ids}
 use Rattle.ty_load.specs.Members.{same_sig, same_type, sig_with}
 use Rattle.ty_load.specs.Tokens.{and_then, only_if}
-use Rattle.ty_load.specs.Walks.{own_variables, arguments, base_type}
+use Rattle.ty_load.specs.Walks.{own_variables, base_type}
 use Rattle.ty_load.specs.Finding.{sig_by, sig_on, method_variables, or_above}
 
 -- what a type is by a definition of its own; a vector declares nothing

@@ -1,5 +1,4 @@
-use Rattle.std.proofs.Common.{◌≡◌, ◌-◌, List, true, map, arith, rules}
-use Rattle.ty_load.specs.Bases.{is_value_type}
+use Rattle.std.proofs.Common.{◌-◌, arith, rules}
 use Rattle.cli_layout.proofs.ExtentLaws.{named_told, no_deeper_item, note_told, value_is}
 use Rattle.cli_layout.proofs.PartLaws.{positive}
 use Rattle.cli_layout.proofs.extents.+extents.Goals as goal

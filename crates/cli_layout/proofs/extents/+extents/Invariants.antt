@@ -1,4 +1,4 @@
-use Rattle.std.proofs.Common.{◌≡◌, ◌+◌, ◌*◌, ℕ, map, take}
+use Rattle.std.proofs.Common.{◌≡◌, ◌+◌, ◌*◌, map, take}
 use Rattle.ty_terms.specs.Depth.{depth_of, depth_of_all}
 use Rattle.cli_layout.specs.Extents.{extent_in, rows_extents}
 use Rattle.cli_layout.specs.Seen.{AreTrueOf}
