@@ -1,6 +1,6 @@
 -- No type of a field is deeper than its signature writes it, and no signature than the deepest.
-use Rattle.std.proofs.Common.{◌≡◌, ◌∙◌, ◌+◌, ◌≤◌, max, ℕ, zero, suc, Bool, true, false, List, [], ◌∷◌, Option, Some, None}
-use Rattle.std.proofs.Common.{Result, Ok, Err, refl, sym, ap, subst, arith, map}
+use Rattle.std.proofs.Common.{◌≡◌, ◌∙◌, ◌+◌, ◌≤◌, ℕ, zero, suc, Bool, true, false, List, [], ◌∷◌, Option, Some, None}
+use Rattle.std.proofs.Common.{Result, Ok, Err, refl, sym, subst, arith, map}
 use Rattle.std.proofs.lemmas.List.Elements.{All-map}
 use Rattle.std.specs.Prelude.{All as Each, IfOk, if◌then◌else◌, slice_get, slice_index_or}
 use Rattle.std.specs.Option.{option_map, option_and_then}
@@ -13,18 +13,17 @@ use Rattle.md_tables.specs.declared.module.TableRow.{TableRow}
 use Rattle.ty_terms.specs.declared.names.TypeId.{TypeId}
 use Rattle.ty_terms.specs.declared.ty.Primitive.{Primitive}
 use Rattle.ty_terms.specs.declared.ty.Ty.{Ty}
-use Rattle.ty_terms.specs.declared.ty.Ty.TheVariants.{Prim, Named, Vector, ByRef, Var, MVar, Canon}
+use Rattle.ty_terms.specs.declared.ty.Ty.TheVariants.{Prim, Named, Vector, ByRef, Var, MVar}
 use Rattle.ty_terms.specs.Depth.{depth_of, depth_of_all, depth_step, greatest}
 use Rattle.ty_terms.specs.Subst.{has_variables_below}
 use Rattle.ty_terms.specs.Induction.{All, induction, fold-Prim, fold-Named, fold-Vector, fold-ByRef, fold-Var}
 use Rattle.ty_terms.specs.Induction.{fold-MVar, fold-Canon}
-use Rattle.ty_names.specs.Modules.{ModuleOf, World, blob_of, cell_of, row_at, rows, tables_at, tables_of}
+use Rattle.ty_names.specs.Modules.{ModuleOf, World, blob_of, cell_of, rows, tables_at, tables_of}
 use Rattle.ty_names.specs.Definitions.{field_blob}
 use Rattle.ty_load.specs.Bases.{parameters}
 use Rattle.ty_load.specs.Members.{field_sig, field_sig_if}
 use Rattle.ty_load.specs.Primitives.{primitive_of, primitive_or, type_of}
 use Rattle.ty_load.specs.Types.{all_types, and_all, bounded, indexed, instance, is_void, no_void, resolve_step, resolved}
-use Rattle.ty_load.specs.Types.{resolved_type}
 use Rattle.cli_layout.specs.declared.rows.FieldRow.{FieldRow}
 use Rattle.cli_layout.specs.Fields.{field_row}
 use Rattle.cli_layout.specs.Told.{depth_if}
@@ -215,7 +214,7 @@ by_module world number row None is = let h = in_module number [] row in omega (a
 by_module world number row (Some found) is =
     let h = in_module number found.tables row in
     let g : module_depth number found.tables ≤ deepest_field world =
-        subst (λ n. module_depth n found.tables ≤ deepest_field world) (omega arith) (in_world 0 number world found is)
+    subst (λ n. module_depth n found.tables ≤ deepest_field world) (omega arith) (in_world 0 number world found is)
     in
     omega (arith, h, g)
 

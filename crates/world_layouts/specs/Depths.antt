@@ -1,5 +1,5 @@
 -- How deep the types of fields are in the modules of a world, as their signatures write them.
-use Rattle.std.specs.Prelude.{ℕ, zero, suc, ◌+◌, max, List, [], ◌∷◌, map, slice_get, Result, Ok, Err}
+use Rattle.std.specs.Prelude.{ℕ, ◌+◌, max, List, [], ◌∷◌, map, slice_get, Result, Ok}
 use Rattle.md_sigs.specs.Signatures.{signature}
 use Rattle.md_sigs.specs.declared.fault.SigFault.{SigFault}
 use Rattle.md_sigs.specs.declared.sig.Sig.{Sig}
