@@ -1,5 +1,6 @@
 -- Fields that are known so far, in front of those behind.
-use Rattle.std.proofs.Common.{◌≡◌, ℕ, Bool, true, false, List, [], ◌∷◌, ◌++◌, Result, Ok, Err, refl, ap, sym, append_assoc}
+use Rattle.std.proofs.Common.{◌≡◌, ℕ, Bool, true, false, List, [], ◌∷◌, ◌++◌, Result, Ok, Err, refl, ap, sym}
+use Rattle.std.proofs.Common.{append_assoc}
 use Rattle.ty_terms.specs.declared.names.TypeId.{TypeId}
 use Rattle.ty_layout.specs.declared.field.Field.{Field}
 use Rattle.cli_layout.specs.declared.extent.Unlaid.{Unlaid}

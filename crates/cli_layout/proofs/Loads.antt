@@ -18,7 +18,8 @@ use Rattle.ty_names.specs.Modules.{World}
 use Rattle.ty_terms.specs.Exact.{IsExactOrder}
 use Rattle.cli_layout.specs.declared.rows.Loaded.{Loaded}
 use Rattle.cli_layout.specs.declared.rows.TypeLayout.{TypeLayout}
-use Rattle.cli_layout.specs.Loading.{AreFound, Gives, loaded, with_statics, IsLoaded, IsSmall, IsSmallOne, layout_in, layout_or, loaded_by, why, with_next}
+use Rattle.cli_layout.specs.Loading.{AreFound, Gives, loaded, with_statics, IsLoaded, IsSmall, IsSmallOne, layout_in}
+use Rattle.cli_layout.specs.Loading.{layout_or, loaded_by, why, with_next}
 use Rattle.cli_layout.specs.Types.{bare, laid_of, statics_of}
 
 -- those that are loaded, in front of what comes of the others
@@ -130,7 +131,8 @@ pub all_small : (answer : Result (List Loaded) LayoutFault) (loaded : List Loade
     → IfOk answer (All IsSmallOne) → answer ≡ Ok loaded → All IsSmallOne loaded
 all_small answer loaded small is = subst (λ e. IfOk e (All IsSmallOne)) is small
 
-module _ (world : World) (slice types slice' statics : List Ty) (types_answer statics_answer : Result (List Loaded) LayoutFault)
+module _ (world : World) (slice types slice' statics : List Ty) (types_answer statics_answer : Result (List Loaded)
+    LayoutFault)
     (same : slice ≡ types) (same' : slice' ≡ statics)
     (types_told : Gives (loaded_by (laid_of world) slice) types_answer)
     (statics_told : Gives (loaded_by (statics_of world) slice') statics_answer) where

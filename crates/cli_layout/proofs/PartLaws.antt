@@ -1,5 +1,6 @@
 -- The parts of an object, class by class.
-use Rattle.std.proofs.Common.{◌≡◌, ◌≢◌, ◌∙◌, ℕ, suc, ◌-◌, Bool, true, false, arith, rules, List, [], ◌∷◌, ◌++◌, Option, Some, None, Result, Ok, Err, map, refl}
+use Rattle.std.proofs.Common.{◌≡◌, ◌≢◌, ◌∙◌, ℕ, suc, ◌-◌, Bool, true, false, arith, rules, List, [], ◌∷◌, ◌++◌}
+use Rattle.std.proofs.Common.{Option, Some, None, Result, Ok, Err, map, refl}
 use Rattle.std.proofs.Common.{sym, ap, ap₂, subst}
 use Rattle.std.specs.Prelude.{if◌then◌else◌}
 use Rattle.std.specs.Option.{option_map_or}

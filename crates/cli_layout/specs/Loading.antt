@@ -1,5 +1,6 @@
 -- The layouts of types that are loaded.
-use Rattle.std.specs.Prelude.{◌≡◌, ℕ, All, ◌<◌, ◌≤◌, ◌^◌, length, max, List, [], ◌∷◌, find, fold, Option, Some, Result, Ok, Err, unwrap_or}
+use Rattle.std.specs.Prelude.{◌≡◌, ℕ, All, ◌<◌, ◌≤◌, ◌^◌, length, max, List, [], ◌∷◌, find, fold, Option, Some}
+use Rattle.std.specs.Prelude.{Result, Ok, Err, unwrap_or}
 use Rattle.std.specs.Prelude.{slice_index_or}
 use Rattle.std.specs.Int.{next_multiple_of}
 use Rattle.std.specs.Option.{option_map}

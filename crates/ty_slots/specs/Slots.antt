@@ -1,5 +1,6 @@
 -- Slots: the one that a virtual method has, and those of a type. ECMA-335 I.8.10.4, II.10.3.2, II.12.2.
-use Rattle.std.specs.Prelude.{◌≡◌, ℕ, zero, suc, ◌+◌, ◌==◌, ◌&&◌, Bool, false, if◌then◌else◌, List, [], ◌∷◌, ◌++◌, filter, length}
+use Rattle.std.specs.Prelude.{◌≡◌, ℕ, zero, suc, ◌+◌, ◌==◌, ◌&&◌, Bool, false, if◌then◌else◌, List, [], ◌∷◌, ◌++◌}
+use Rattle.std.specs.Prelude.{filter, length}
 use Rattle.std.specs.Prelude.{not, Option, Some, None, Result, Ok}
 use Rattle.ty_terms.specs.declared.names.Slot.{Slot}
 use Rattle.ty_terms.specs.declared.names.TypeId.{TypeId}
