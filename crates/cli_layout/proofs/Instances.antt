@@ -73,7 +73,8 @@ module _ (world : World) (args : List Ty) where
   same =
       induction Same (record {
         primitive = λ p.
-            ap own (fold-Prim (subst_step args []) p ∙ rolls-Prim p) ∙ fold-Prim own_step p ∙ sym (fold-Prim inner_step p);
+            ap own (fold-Prim (subst_step args []) p ∙ rolls-Prim p) ∙ fold-Prim own_step p ∙ sym (fold-Prim
+            inner_step p);
         named = of_named;
         vector = λ element is.
             ap own (fold-Vector (subst_step args []) element ∙ rolls-Vector (placed element))

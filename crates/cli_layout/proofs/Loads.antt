@@ -131,7 +131,8 @@ pub all_small : (answer : Result (List Loaded) LayoutFault) (loaded : List Loade
     → IfOk answer (All IsSmallOne) → answer ≡ Ok loaded → All IsSmallOne loaded
 all_small answer loaded small is = subst (λ e. IfOk e (All IsSmallOne)) is small
 
-module _ (world : World) (slice types slice' statics : List Ty) (types_answer statics_answer : Result (List Loaded) LayoutFault)
+module _ (world : World) (slice types slice' statics : List Ty) (types_answer statics_answer : Result (List Loaded)
+    LayoutFault)
     (same : slice ≡ types) (same' : slice' ≡ statics)
     (types_told : Gives (loaded_by (laid_of world) slice) types_answer)
     (statics_told : Gives (loaded_by (statics_of world) slice') statics_answer) where

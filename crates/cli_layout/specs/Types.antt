@@ -1,4 +1,5 @@
--- Where the fields of an object, of a value and of a type's statics lie: ECMA-335 I.12.6.2, II.10.1.2, II.10.7, II.14.2.
+-- Where the fields of an object, of a value and of a type's statics lie: ECMA-335 I.12.6.2, II.10.1.2, II.10.7,
+-- II.14.2.
 use Rattle.std.specs.Prelude.{ℕ, zero, suc, nat_le, if◌then◌else◌, List, [], ◌∷◌, ◌++◌, map, Option}
 use Rattle.std.specs.Prelude.{Some, None, Result, Ok, Err}
 use Rattle.std.specs.List.{flat_map}
@@ -110,7 +111,8 @@ laid_layer world ty (Ty-F.MVar n) = Ok (bare 8)
 laid_layer world ty Ty-F.Canon = Ok (bare 8)
 
 -- An object of a type without elements, or a value of a value type: its fields in declared order, those of the topmost
--- base first, and its bytes. It is laid where its object, of a value type the boxed value, has at most 65,536 bytes, and
+-- base first, and its bytes. It is laid where its object, of a value type the boxed value, has at most 65,536 bytes,
+-- and
 -- its bases and the types of its fields lead to something.
 unfoldable pub laid_of : World → Ty → Result TypeLayout Unlaid
 laid_of world ty = laid_layer world ty (out-Ty ty)

@@ -24,8 +24,8 @@ impl From<Memory> for Fault {
 /// Why types aren't loaded.
 #[derive(Debug, Drop)]
 pub enum LayoutFault {
-    /// The object of this type without elements, of a value type the boxed value, or the statics of this type, would have
-    /// more than 65,536 bytes.
+    /// The object of this type without elements, of a value type the boxed value, or the statics of this type, would
+    /// have more than 65,536 bytes.
     ObjectLimit(Ty),
     /// What this type extends leads to nothing.
     NoBase(TypeId),

@@ -221,7 +221,7 @@ fn fits(names: &Names, alloc: Global, left: usize, from: Ty, to: &Ty) -> Result<
 }
 
 /// How many definitions the modules have.
-fn definition_count(names: &Names) -> usize
+pub fn definition_count(names: &Names) -> usize
     ensures count { result ≡ length (all_ids names.now) }
     ensures few { result + 2 ^ 32 < 2 ^ 64 }
 {

@@ -7,7 +7,7 @@ mod keys;
 mod steps;
 mod values;
 
-pub use assigning::fitting;
+pub use assigning::{definition_count, fitting};
 pub use bases::{
     base_of, has_definition, interface_of, is_interface_id, is_value_type, may_extend,
 };

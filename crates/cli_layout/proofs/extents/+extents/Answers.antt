@@ -5,7 +5,8 @@ use Rattle.cli_layout.proofs.extents.+extents.Goals as goal
 
 pub extent-returns-in_ok-args-in-Named-clause-told : goal.extent-returns-in_ok-args-in-Named-clause-told
 extent-returns-in_ok-args-in-Named-clause-told g t c =
-    named_told c.args.left (g.D.Definitions.world c.args.definitions.now) c.args.env.now c.args.ty.now c.in-Named.id c.in-Named.args
+    named_told c.args.left (g.D.Definitions.world c.args.definitions.now) c.args.env.now c.args.ty.now c.in-Named.id
+    c.in-Named.args
     c.as_slice-in-Named.result.now c.value.result c.in-Named.is (search rules) (search rules) c.value.ensures.told
 
 pub extents-extent-requires : goal.extents-extent-requires

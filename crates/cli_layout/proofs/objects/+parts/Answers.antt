@@ -20,7 +20,8 @@ parts-returns-in-Ok g t c =
 
 pub parts-returns-in_err-parts_above-in-Err-Not-TooLarge : goal.parts-returns-in_err-parts_above-in-Err-Not-TooLarge
 parts-returns-in_err-parts_above-in-Err-Not-TooLarge g t c =
-    large_with_fault c.args.left (c.args.left - 1) (g.D.Definitions.world c.args.definitions.now) c.args.id c.args.env.now
+    large_with_fault c.args.left (c.args.left - 1) (g.D.Definitions.world c.args.definitions.now) c.args.id
+    c.args.env.now
     c.as_slice.result.now c.fields_in.result c.parts_above-in-Err-Not-TooLarge.result
     (positive c.args.left c.if-left-eq0.false) (search rules) c.fields_in.ensures
     c.parts_above-in-Err-Not-TooLarge.ensures c.in_err-parts_above-in-Err-Not-TooLarge.field-0.0

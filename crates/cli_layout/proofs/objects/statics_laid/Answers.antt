@@ -8,7 +8,8 @@ pub returns-in_err-fields-clause-told : goal.returns-in_err-fields-clause-told
 returns-in_err-fields-clause-told g c =
     not_laid itself one_part (g.D.Definitions.world c.args.definitions.now)
     (arguments_of (g.D.Definitions.world c.args.definitions.now) c.args.ty.now) c.as_slice.result.now c.args.id
-    c.as_slice-2.result.now (static_fields (g.D.Definitions.world c.args.definitions.now) c.args.id) c.fields_in.result (search rules)
+    c.as_slice-2.result.now (static_fields (g.D.Definitions.world c.args.definitions.now) c.args.id)
+    c.fields_in.result (search rules)
     (search rules) c.fields_in.ensures c.in_err-fields.field-0.0 c.from_residual-in_err-fields.result (search rules)
     (search rules)
 
@@ -16,5 +17,6 @@ pub returns-clause-told : goal.returns-clause-told
 returns-clause-told g c =
     is_laid itself one_part (g.D.Definitions.world c.args.definitions.now)
     (arguments_of (g.D.Definitions.world c.args.definitions.now) c.args.ty.now) c.as_slice.result.now c.args.id
-    c.as_slice-2.result.now (static_fields (g.D.Definitions.world c.args.definitions.now) c.args.id) c.fields_in.result (search rules)
+    c.as_slice-2.result.now (static_fields (g.D.Definitions.world c.args.definitions.now) c.args.id)
+    c.fields_in.result (search rules)
     (search rules) c.fields_in.ensures c.in_ok-fields.fields c.one_part.result (search rules) (search rules)

@@ -1,0 +1,15 @@
+use Rattle.std.proofs.Common.{false}
+use Rattle.ty_names.specs.Definitions.{fields_of}
+use Rattle.ty_names.specs.Modules.{tables_at}
+use Rattle.world_layouts.proofs.Placing.{fields_told}
+use Rattle.world_layouts.proofs.Shallow.{depth_told}
+use Rattle.world_layouts.proofs.world.WorldTypesDefinitions.fields.Goals as goal
+
+pub returns-clause-rows : goal.returns-clause-rows
+returns-clause-rows c = fields_told c.args.self.now.members.now c.args.id c.fields.result c.fields.ensures.rows
+
+pub returns-clause-depth : goal.returns-clause-depth
+returns-clause-depth c =
+    depth_told c.args.self.now.members.now c.args.id false
+    (fields_of (tables_at c.args.self.now.members.now c.args.id.module) c.args.id.row) c.fields.result
+    c.fields.ensures.rows
