@@ -23,7 +23,8 @@ use Rattle.ty_names.specs.Definitions.{field_blob}
 use Rattle.ty_load.specs.Bases.{parameters}
 use Rattle.ty_load.specs.Members.{field_sig, field_sig_if}
 use Rattle.ty_load.specs.Primitives.{primitive_of, primitive_or, type_of}
-use Rattle.ty_load.specs.Types.{all_types, and_all, bounded, indexed, instance, is_void, no_void, resolve_step, resolved}
+use Rattle.ty_load.specs.Types.{all_types, and_all, bounded, indexed, instance, is_void, no_void, resolve_step}
+use Rattle.ty_load.specs.Types.{resolved}
 use Rattle.cli_layout.specs.declared.rows.FieldRow.{FieldRow}
 use Rattle.cli_layout.specs.Fields.{field_row}
 use Rattle.cli_layout.specs.Told.{depth_if}
