@@ -500,15 +500,7 @@ fn sums(alloc: Global, outer: &[u32], inner: &[u32], status: u8) -> Result<bool,
 
 fn reaches_the_bound(alloc: Global, few: bool) -> Result<bool, Fail> {
     let bodies = one(alloc, never_ends(alloc)?)?;
-    comes_to(
-        alloc,
-        bodies,
-        few,
-        b"",
-        134,
-        b"",
-        b"stack bound reached\n",
-    )
+    comes_to(alloc, bodies, few, b"", 134, b"", b"stack bound reached\n")
 }
 
 fn clears(alloc: Global) -> Result<bool, Fail> {

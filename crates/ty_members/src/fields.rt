@@ -39,7 +39,10 @@ impl Members {
         ensures end { result.1 ≡ definitions.run_end (tables_at self.now id.module) 0x02 4 0x04 id.row }
     {
         let tables = self.tables(id.module);
-        (run_begin(tables, 4, id.row), run_end(tables, 4, 0x04, id.row))
+        (
+            run_begin(tables, 4, id.row),
+            run_end(tables, 4, 0x04, id.row),
+        )
     }
 
     /// The type of a field of a type, in the type's variables; none where its signature has no reading or its type
