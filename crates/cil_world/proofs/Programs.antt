@@ -1,6 +1,6 @@
 -- Small programs, and how they end. Types are compared by folds that don't compute here: their equations (`types`) are
 -- put in, and all else computes. What is asked of the world again and again, a method's entry and what its tokens lead
--- to, is computed once; so is each method's table of stacks, which one round settles.
+-- to, is computed once; so are the steps of each method for stacks, and the table that rounds make of them.
 use Rattle.std.proofs.Common.{◌≡◌, ◌∙◌, ℕ, zero, suc, true, false, List, [], ◌∷◌, Option, Some, None, Ok, ap, pos}
 use Rattle.std.proofs.Common.{refl}
 use Rattle.std.specs.Int.{int_wrap}
@@ -29,9 +29,19 @@ use Rattle.il_verify.specs.Actions.{action_of}
 use Rattle.il_verify.specs.Inside.{is_inside}
 use Rattle.il_verify.specs.Rows.{row_of}
 use Rattle.il_verify.specs.Scope.{Scope}
-use Rattle.il_verify.specs.Slots.{Int32, Slot, Slots, Stack}
-use Rattle.il_verify.specs.Verified.{first_table, is_table_below, least_stacks, most_rounds, one_round, settled}
-use Rattle.il_verify.specs.Verified.{verification}
+use Rattle.il_verify.specs.Flow.{reached_offsets, steps_of}
+use Rattle.il_verify.specs.Kinds.{is_reference}
+use Rattle.il_verify.specs.Verified.{least_stacks, verification}
+use Rattle.il_stacks.specs.Rounds.{stacks_by_rounds}
+use Rattle.il_stacks.specs.declared.effect.Effect.TheVariants.{Takes}
+use Rattle.il_stacks.specs.declared.effect.Results.{Results}
+use Rattle.il_stacks.specs.declared.effect.Results.TheVariants.{Nothing as NoResult, Always, AgreedNumber}
+use Rattle.il_stacks.specs.declared.effect.Step.{Step}
+use Rattle.il_stacks.specs.declared.slot.StackSlot.{StackSlot}
+use Rattle.il_stacks.specs.declared.slot.StackSlot.TheVariants.{Int32}
+use Rattle.il_stacks.specs.declared.stack.Stack.{Stack}
+use Rattle.il_stacks.specs.declared.stack.Stack.TheVariants.{Slots}
+use Rattle.il_stacks.specs.declared.typing.OffsetStack.{OffsetStack}
 use Rattle.cil_world.specs.Contents.{size_of}
 use Rattle.cil_world.specs.Entering.{StackBound, entry, text_of}
 use Rattle.cil_world.specs.Programs.{constant, endless, small_bounds, told, two_calls}
@@ -49,24 +59,6 @@ reading = 0
 stepping : ℕ
 unfolding cil_step cil_start row_of action_of runtime_call small_bounds
 stepping = 0
-
--- ---- a table of stacks that is settled after one round
-
-over : (scope : Scope) (body : Body) (offsets : List ℕ) (left : ℕ) (table : List (Option Stack))
-    → settled scope body offsets left true table ≡ table
-over scope body offsets zero table = refl
-over scope body offsets (suc left) table = refl
-
-by_a_round : (scope : Scope) (body : Body) (offsets : List ℕ) (left : ℕ) (first next : List (Option Stack))
-    → one_round scope body offsets first ≡ next → is_table_below next first ≡ false
-    → one_round scope body offsets next ≡ next → is_table_below next next ≡ true
-    → settled scope body offsets (suc (suc left)) false first ≡ next
-by_a_round scope body offsets left first next once more again done =
-    ap (λ t. settled scope body offsets (suc left) (is_table_below t first) t) once
-    ∙ ap (λ b. settled scope body offsets (suc left) b next) more
-    ∙ ap (λ t. settled scope body offsets left (is_table_below t next) t) again
-    ∙ ap (λ b. settled scope body offsets left b next) done
-    ∙ over scope body offsets left next
 
 -- ---- names
 
@@ -92,18 +84,49 @@ body code = record { max_stack = 8; locals = 0; code = code; clauses = [] }
 abbrev scope : World → ℕ → List Ty → Scope
 scope world row args = record { world = world; name = method_of row; args = args; locals = []; result = int }
 
-abbrev known : List Slot → Option Stack
+abbrev known : List StackSlot → Option Stack
 known slots = Some (Slots slots)
+
+abbrev at_offset : ℕ → List StackSlot → OffsetStack
+at_offset offset slots = record { offset = offset; stack = Slots slots }
+
+abbrev step : ℕ → List ℕ → ℕ → Results → Step
+step at ways takes gives = record { at = at; ways = ways; effect = Takes takes gives }
 
 -- ---- a constant
 
 abbrev constant_body : Body
 constant_body = body (instr 0 2 Op.LdcI4S (NumberOf (pos 42)) ∷ instr 2 3 Op.Ret Nothing ∷ [])
 
-constant_verified : verification constant (method_of 1) constant_body
-    ≡ Ok (record { stacks = (0, Slots []) ∷ (2, Slots (Int32 ∷ [])) ∷ []; values = [] })
-unfolding constant reading verification least_stacks row_of action_of
-constant_verified = simp types
+abbrev constant_scope : Scope
+constant_scope = scope constant 1 []
+
+abbrev constant_stacks : List (Option Stack)
+constant_stacks = known [] ∷ None ∷ known (Int32 ∷ []) ∷ []
+
+abbrev constant_steps : List Step
+constant_steps = step 0 (2 ∷ []) 0 (Always Int32) ∷ step 2 [] 1 NoResult ∷ []
+
+constant_reached : reached_offsets constant_body ≡ 0 ∷ 2 ∷ []
+unfolding stacks_by_rounds
+constant_reached = refl
+
+constant_steps_are : steps_of constant_scope constant_body ≡ constant_steps
+unfolding constant reading row_of action_of
+constant_steps_are = simp (constant_reached, types)
+
+constant_settled : stacks_by_rounds (is_reference constant) constant_steps [] 3 ≡ constant_stacks
+unfolding stacks_by_rounds
+constant_settled = refl
+
+constant_least : least_stacks constant_scope constant_body ≡ constant_stacks
+unfolding least_stacks
+constant_least =
+    ap (λ steps. stacks_by_rounds (is_reference constant) steps [] 3) constant_steps_are ∙ constant_settled
+
+constant_verified : verification constant (method_of 1) constant_body ≡ Ok (record { stacks = at_offset 0 [] ∷ at_offset 2 (Int32 ∷ []) ∷ []; values = [] })
+unfolding constant reading verification row_of action_of
+constant_verified = simp (constant_least, constant_steps_are, constant_reached, types)
 
 constant_entry : entry constant (method_of 1)
     ≡ Some (record { body = constant_body; scope = scope constant 1 []; bytes = 256 })
@@ -135,33 +158,31 @@ next_offsets = 0 ∷ 1 ∷ 2 ∷ 3 ∷ []
 abbrev next_stacks : List (Option Stack)
 next_stacks = known [] ∷ known (Int32 ∷ []) ∷ known (Int32 ∷ Int32 ∷ []) ∷ known (Int32 ∷ []) ∷ []
 
-next_once : one_round next_scope next_body next_offsets (first_table next_body) ≡ next_stacks
-unfolding two_calls reading row_of action_of
-next_once = simp (types)
+abbrev next_steps : List Step
+next_steps = step 0 (1 ∷ []) 0 (Always Int32) ∷ step 1 (2 ∷ []) 0 (Always Int32) ∷ step 2 (3 ∷ []) 2 AgreedNumber
+    ∷ step 3 [] 1 NoResult ∷ []
 
-next_again : one_round next_scope next_body next_offsets next_stacks ≡ next_stacks
-unfolding two_calls reading row_of action_of
-next_again = simp (types)
+next_reached : reached_offsets next_body ≡ next_offsets
+unfolding stacks_by_rounds
+next_reached = refl
 
-next_rounds : most_rounds next_scope next_body next_offsets ≡ 53
+next_steps_are : steps_of next_scope next_body ≡ next_steps
 unfolding two_calls reading row_of action_of
-next_rounds = simp (types)
+next_steps_are = simp (next_reached, types)
+
+next_settled : stacks_by_rounds (is_reference two_calls) next_steps [] 4 ≡ next_stacks
+unfolding stacks_by_rounds
+next_settled = refl
 
 next_least : least_stacks next_scope next_body ≡ next_stacks
-unfolding least_stacks two_calls action_of
+unfolding least_stacks
 next_least =
-    ap (λ n. settled next_scope next_body next_offsets n false (first_table next_body)) next_rounds
-    ∙ by_a_round next_scope next_body next_offsets 51 (first_table next_body) next_stacks next_once refl
-    next_again refl
+    ap (λ steps. stacks_by_rounds (is_reference two_calls) steps [] 4) next_steps_are ∙ next_settled
 
-next_verified : verification two_calls (method_of 2) next_body
-    ≡ Ok (record {
-      stacks = (0, Slots []) ∷ (1, Slots (Int32 ∷ [])) ∷ (2, Slots (Int32 ∷ Int32 ∷ [])) ∷
-          (3, Slots (Int32 ∷ [])) ∷ [];
-      values = [];
-    })
+next_verified : verification two_calls (method_of 2) next_body ≡ Ok (record { stacks = at_offset 0 [] ∷ at_offset 1 (Int32 ∷ [])
+    ∷ at_offset 2 (Int32 ∷ Int32 ∷ []) ∷ at_offset 3 (Int32 ∷ []) ∷ []; values = [] })
 unfolding two_calls reading verification row_of action_of
-next_verified = simp (next_least, types)
+next_verified = simp (next_least, next_steps_are, next_reached, types)
 
 next_inside : is_inside two_calls (method_of 2) next_body ≡ true
 unfolding two_calls reading is_inside action_of
@@ -187,33 +208,31 @@ abbrev twice_stacks : List (Option Stack)
 twice_stacks = known [] ∷ known (Int32 ∷ []) ∷ None ∷ None ∷ None ∷ None ∷ known (Int32 ∷ []) ∷ None ∷ None ∷ None
     ∷ None ∷ known (Int32 ∷ []) ∷ []
 
-twice_once : one_round twice_scope twice_body twice_offsets (first_table twice_body) ≡ twice_stacks
-unfolding two_calls reading row_of action_of
-twice_once = simp (two_token, types)
+abbrev twice_steps : List Step
+twice_steps = step 0 (1 ∷ []) 0 (Always Int32) ∷ step 1 (6 ∷ []) 1 (Always Int32)
+    ∷ step 6 (11 ∷ []) 1 (Always Int32) ∷ step 11 [] 1 NoResult ∷ []
 
-twice_again : one_round twice_scope twice_body twice_offsets twice_stacks ≡ twice_stacks
-unfolding two_calls reading row_of action_of
-twice_again = simp (two_token, types)
+twice_reached : reached_offsets twice_body ≡ twice_offsets
+unfolding stacks_by_rounds
+twice_reached = refl
 
-twice_rounds : most_rounds twice_scope twice_body twice_offsets ≡ 53
+twice_steps_are : steps_of twice_scope twice_body ≡ twice_steps
 unfolding two_calls reading row_of action_of
-twice_rounds = simp (two_token, types)
+twice_steps_are = simp (twice_reached, two_token, types)
+
+twice_settled : stacks_by_rounds (is_reference two_calls) twice_steps [] 12 ≡ twice_stacks
+unfolding stacks_by_rounds
+twice_settled = refl
 
 twice_least : least_stacks twice_scope twice_body ≡ twice_stacks
-unfolding least_stacks two_calls action_of
+unfolding least_stacks
 twice_least =
-    ap (λ n. settled twice_scope twice_body twice_offsets n false (first_table twice_body)) twice_rounds
-    ∙ by_a_round twice_scope twice_body twice_offsets 51 (first_table twice_body) twice_stacks twice_once refl
-    twice_again refl
+    ap (λ steps. stacks_by_rounds (is_reference two_calls) steps [] 12) twice_steps_are ∙ twice_settled
 
-twice_verified : verification two_calls (method_of 1) twice_body
-    ≡ Ok (record {
-      stacks = (0, Slots []) ∷ (1, Slots (Int32 ∷ [])) ∷ (6, Slots (Int32 ∷ [])) ∷ (11, Slots (Int32 ∷ []))
-          ∷ [];
-      values = [];
-    })
+twice_verified : verification two_calls (method_of 1) twice_body ≡ Ok (record { stacks = at_offset 0 [] ∷ at_offset 1 (Int32 ∷ [])
+    ∷ at_offset 6 (Int32 ∷ []) ∷ at_offset 11 (Int32 ∷ []) ∷ []; values = [] })
 unfolding two_calls reading verification row_of action_of
-twice_verified = simp (twice_least, two_token, types)
+twice_verified = simp (twice_least, twice_steps_are, twice_reached, two_token, types)
 
 twice_inside : is_inside two_calls (method_of 1) twice_body ≡ true
 unfolding two_calls reading is_inside action_of
@@ -247,29 +266,29 @@ first_offsets = 0 ∷ 5 ∷ []
 abbrev first_stacks : List (Option Stack)
 first_stacks = known [] ∷ None ∷ None ∷ None ∷ None ∷ known (Int32 ∷ []) ∷ []
 
-first_once : one_round first_scope first_body first_offsets (first_table first_body) ≡ first_stacks
-unfolding endless reading row_of action_of
-first_once = simp (endless_token, types)
+abbrev first_steps : List Step
+first_steps = step 0 (5 ∷ []) 0 (Always Int32) ∷ step 5 [] 1 NoResult ∷ []
 
-first_again : one_round first_scope first_body first_offsets first_stacks ≡ first_stacks
-unfolding endless reading row_of action_of
-first_again = simp (endless_token, types)
+first_reached : reached_offsets first_body ≡ first_offsets
+unfolding stacks_by_rounds
+first_reached = refl
 
-first_rounds : most_rounds first_scope first_body first_offsets ≡ 19
+first_steps_are : steps_of first_scope first_body ≡ first_steps
 unfolding endless reading row_of action_of
-first_rounds = simp (endless_token, types)
+first_steps_are = simp (first_reached, endless_token, types)
+
+first_settled : stacks_by_rounds (is_reference endless) first_steps [] 6 ≡ first_stacks
+unfolding stacks_by_rounds
+first_settled = refl
 
 first_least : least_stacks first_scope first_body ≡ first_stacks
-unfolding least_stacks endless action_of
+unfolding least_stacks
 first_least =
-    ap (λ n. settled first_scope first_body first_offsets n false (first_table first_body)) first_rounds
-    ∙ by_a_round first_scope first_body first_offsets 17 (first_table first_body) first_stacks first_once refl
-    first_again refl
+    ap (λ steps. stacks_by_rounds (is_reference endless) steps [] 6) first_steps_are ∙ first_settled
 
-first_verified : verification endless (method_of 1) first_body
-    ≡ Ok (record { stacks = (0, Slots []) ∷ (5, Slots (Int32 ∷ [])) ∷ []; values = [] })
+first_verified : verification endless (method_of 1) first_body ≡ Ok (record { stacks = at_offset 0 [] ∷ at_offset 5 (Int32 ∷ []) ∷ []; values = [] })
 unfolding endless reading verification row_of action_of
-first_verified = simp (first_least, endless_token, types)
+first_verified = simp (first_least, first_steps_are, first_reached, endless_token, types)
 
 first_inside : is_inside endless (method_of 1) first_body ≡ true
 unfolding endless reading is_inside action_of
@@ -293,29 +312,29 @@ second_offsets = 0 ∷ 5 ∷ []
 abbrev second_stacks : List (Option Stack)
 second_stacks = known [] ∷ None ∷ None ∷ None ∷ None ∷ known (Int32 ∷ []) ∷ []
 
-second_once : one_round second_scope second_body second_offsets (first_table second_body) ≡ second_stacks
-unfolding endless reading row_of action_of
-second_once = simp (endless_token, types)
+abbrev second_steps : List Step
+second_steps = step 0 (5 ∷ []) 0 (Always Int32) ∷ step 5 [] 1 NoResult ∷ []
 
-second_again : one_round second_scope second_body second_offsets second_stacks ≡ second_stacks
-unfolding endless reading row_of action_of
-second_again = simp (endless_token, types)
+second_reached : reached_offsets second_body ≡ second_offsets
+unfolding stacks_by_rounds
+second_reached = refl
 
-second_rounds : most_rounds second_scope second_body second_offsets ≡ 19
+second_steps_are : steps_of second_scope second_body ≡ second_steps
 unfolding endless reading row_of action_of
-second_rounds = simp (endless_token, types)
+second_steps_are = simp (second_reached, endless_token, types)
+
+second_settled : stacks_by_rounds (is_reference endless) second_steps [] 6 ≡ second_stacks
+unfolding stacks_by_rounds
+second_settled = refl
 
 second_least : least_stacks second_scope second_body ≡ second_stacks
-unfolding least_stacks endless action_of
+unfolding least_stacks
 second_least =
-    ap (λ n. settled second_scope second_body second_offsets n false (first_table second_body)) second_rounds
-    ∙ by_a_round second_scope second_body second_offsets 17 (first_table second_body) second_stacks second_once refl
-    second_again refl
+    ap (λ steps. stacks_by_rounds (is_reference endless) steps [] 6) second_steps_are ∙ second_settled
 
-second_verified : verification endless (method_of 2) second_body
-    ≡ Ok (record { stacks = (0, Slots []) ∷ (5, Slots (Int32 ∷ [])) ∷ []; values = [] })
+second_verified : verification endless (method_of 2) second_body ≡ Ok (record { stacks = at_offset 0 [] ∷ at_offset 5 (Int32 ∷ []) ∷ []; values = [] })
 unfolding endless reading verification row_of action_of
-second_verified = simp (second_least, endless_token, types)
+second_verified = simp (second_least, second_steps_are, second_reached, endless_token, types)
 
 second_inside : is_inside endless (method_of 2) second_body ≡ true
 unfolding endless reading is_inside action_of

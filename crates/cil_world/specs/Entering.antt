@@ -78,9 +78,12 @@ fields_resolve world ty =
     length (own_fields world ty)
     == option_map_or (λ id. length (placed_rows world id)) (definition_of world ty) 0
 
+-- what stands right above a type
+abbrev pub above_resolves : World → Ty → Bool
+above_resolves world ty = is_found (base_type world ty) && list_all is_found (interface_types world ty)
+
 abbrev pub class_resolves : World → Ty → Bool
-class_resolves world ty =
-    is_found (base_type world ty) && list_all is_found (interface_types world ty) && fields_resolve world ty
+class_resolves world ty = above_resolves world ty && fields_resolve world ty
 
 -- a type with its bases, and the value types in its fields
 abbrev pub content_resolves : ℕ → World → Content → Bool
@@ -127,10 +130,11 @@ abbrev pub is_known_static : World → Option Ty → Bool
 is_known_static world None = false
 is_known_static world (Some ty) = content_resolves (deepest world ty) world (content_of world ty)
 
--- a type whose statics may be laid out: its bases and interfaces are known, and so are the types of its statics
+-- A type whose statics may be laid out: its bases and interfaces are known, and so are the types of its statics, which
+-- stand in place of instance fields.
 abbrev pub may_lay_out_statics : World → Ty → Bool
 may_lay_out_statics world ty =
-    list_all (class_resolves world) (classes_of world ty) && list_all (is_known_static world) (static_types world ty)
+    list_all (above_resolves world) (classes_of world ty) && list_all (is_known_static world) (static_types world ty)
     && is_laid (statics_of world ty)
 
 -- ---- frames

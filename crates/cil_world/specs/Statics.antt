@@ -11,13 +11,17 @@ use Rattle.num_core.specs.Integers.{held, wrapped_to_type}
 use Rattle.md_tables.specs.declared.module.Table.{Table}
 use Rattle.ty_terms.specs.declared.names.FieldName.{FieldName}
 use Rattle.ty_terms.specs.declared.ty.Ty.{Ty}
+use Rattle.ty_layout.specs.declared.field.Alignment.TheVariants.{One, Two, Four, Eight}
+use Rattle.ty_layout.specs.declared.field.Field.{Field}
 use Rattle.ty_names.specs.Modules.{World, tables_at, rows, blob_of, index_of}
 use Rattle.ty_load.specs.Primitives.{definition_of}
 use Rattle.ty_load.specs.Members.{same_type}
+use Rattle.cli_layout.specs.Extents.{bytes as sized, reference, value_field}
+use Rattle.cli_layout.specs.Fields.{asked_size}
 use Rattle.il_verify.specs.Actions.{Integer, Sized, Native}
 use Rattle.il_verify.specs.Kinds.{Content, Number, Object, Compound, Pointing, NoContent, content_of}
 use Rattle.il_verify.specs.Scope.{member_of, system}
-use Rattle.cil_world.specs.Contents.{deepest, own_fields, field_places, size_of, zero_of}
+use Rattle.cil_world.specs.Contents.{deepest, own_fields, field_places, zero_of}
 use Rattle.cil_world.specs.Values.{Value, Null, Nowhere, values, none}
 
 -- ---- bytes of fields: FieldRVA
@@ -27,11 +31,37 @@ bytes_in tables row =
     option_map (λ found. blob_of (slice_get found.cells 0))
     (find (λ found. index_of (slice_get found.cells 1) == row) (rows tables 0x1D))
 
+-- How many bytes a value takes, and at which multiples of what it may begin, of whatever size it is: a field that only
+-- stands for bytes may have more than an object.
+abbrev pub number_field : Integer → Field
+number_field (Sized Narrow.I1) = sized 1 One
+number_field (Sized Narrow.U1) = sized 1 One
+number_field (Sized Narrow.I2) = sized 2 Two
+number_field (Sized Narrow.U2) = sized 2 Two
+number_field (Sized Narrow.I4) = sized 4 Four
+number_field (Sized Narrow.U4) = sized 4 Four
+number_field (Sized Narrow.I8) = sized 8 Eight
+number_field (Sized Narrow.U8) = sized 8 Eight
+number_field (Native sign) = sized 8 Eight
+
+abbrev pub whole_within : ℕ → World → Content → Field
+whole_within left world (Number integer) = number_field integer
+whole_within left world Object = reference
+whole_within left world (Pointing target) = reference
+whole_within left world NoContent = reference
+whole_within zero world (Compound ty) = sized 1 One
+whole_within (suc left) world (Compound ty) =
+    value_field (option_map_or (asked_size world) (definition_of world ty) 0)
+    (map (λ field. whole_within left world (content_of world field)) (own_fields world ty))
+
+abbrev pub whole_size : World → Ty → ℕ
+whole_size world ty = (whole_within (deepest world ty) world (content_of world ty)).size
+
 -- the first bytes of a field's row, as many as its type has
 abbrev pub field_bytes : World → FieldName → Option (List ℕ)
 field_bytes world name =
     option_and_then (λ member. option_and_then (λ id.
-    option_map (take (size_of world member.ty)) (bytes_in (tables_at world id.module) name.row))
+    option_map (take (whole_size world member.ty)) (bytes_in (tables_at world id.module) name.row))
     (definition_of world name.owner)) (member_of world name)
 
 -- ---- values from bytes, the lowest byte first; bytes that are missing are zeros

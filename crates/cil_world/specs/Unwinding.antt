@@ -11,7 +11,7 @@ use Rattle.il_code.specs.declared.body.ClauseKind.TheVariants.{Catch, Filter, Fi
 use Rattle.il_code.specs.Reach.{tries}
 use Rattle.ty_terms.specs.declared.ty.Ty.{Ty}
 use Rattle.ty_names.specs.Modules.{World}
-use Rattle.il_verify.specs.Ranges.{holds, is_finally_kind, Try}
+use Rattle.il_verify.specs.Ranges.{handler_range, holds, is_finally_kind}
 use Rattle.il_verify.specs.Scope.{type_token}
 use Rattle.cil_world.specs.Entering.{Entry, entry_of_running}
 use Rattle.cil_world.specs.ObjectSteps.{fits_type, is_exception, type_of_object}
@@ -153,7 +153,7 @@ search_step world state object frame n =
 
 -- the handler of a clause holds an offset
 abbrev pub has_in_handler : ℕ → Clause → Bool
-has_in_handler offset clause = holds offset (record { begin = clause.handler_at; end = clause.handler_end; role = Try })
+has_in_handler offset clause = holds offset (handler_range clause)
 
 abbrev pub handler_holds : List Clause → ℕ → ℕ → Bool
 handler_holds clauses offset number = option_map_or (has_in_handler offset) (slice_get clauses number) false
