@@ -33,7 +33,7 @@ use Rattle.ty_names.specs.Modules.{World, core_of, tables_at}
 use Rattle.ty_load.specs.Bases.{parameters}
 use Rattle.ty_load.specs.Cycles.{all_ids}
 use Rattle.ty_load.specs.Members.{method_sig, same_type}
-use Rattle.ty_load.specs.Primitives.{definition_of, name_of_primitive, type_of}
+use Rattle.ty_load.specs.Primitives.{name_of_primitive, type_of}
 use Rattle.ty_load.specs.Search.{before_comma, full_name}
 use Rattle.ty_load.specs.Texts.{listed_texts}
 use Rattle.ty_load.specs.Tokens.{method_named}
@@ -45,6 +45,7 @@ use Rattle.cil_world.specs.Contents.{deepest, size_of}
 use Rattle.cil_world.specs.Did.{Did, Gives, Raises, RaisesNamed, Ends, Writes, Reads, Cannot, given}
 use Rattle.cil_world.specs.Did.{on_none, on_one, on_two, on_three, on_int32, on_reference, on_some, pushes_frame}
 use Rattle.ty_load.specs.Classes.{upward}
+use Rattle.ty_slots.specs.Declared.{own_definition}
 use Rattle.cil_world.specs.Entering.{HeapBound, Unchecked, has_room, next_object, with_object, may_lay_out_value}
 use Rattle.cil_world.specs.ObjectSteps.{count_of, element_type, index_of_number, type_of_object}
 use Rattle.cil_world.specs.Places.{change_object}
@@ -260,7 +261,7 @@ candidates_in setting world name ty id =
 
 abbrev pub candidates_of : Setting → World → List ℕ → Ty → List MethodName
 candidates_of setting world name ty =
-    option_map_or (candidates_in setting world name ty) (definition_of world ty) []
+    option_map_or (candidates_in setting world name ty) (own_definition world ty) []
 
 abbrev pub first_filled : {A : Type 0} → List (List A) → List A
 first_filled [] = []
