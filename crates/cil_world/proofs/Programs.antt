@@ -1,7 +1,7 @@
 -- Small programs, and how they end. Types are compared by folds that don't compute here: their equations (`types`) are
 -- put in, and all else computes. What is asked of the world again and again, a method's entry and what its tokens lead
--- to, is computed once; so are the steps of each method for stacks, and the table that rounds make of them.
-use Rattle.std.proofs.Common.{◌≡◌, ◌∙◌, ℕ, zero, suc, true, false, List, [], ◌∷◌, Option, Some, None, Ok, ap, pos}
+-- to, is computed once; so are the steps of each method's code, over which its table of stacks computes alone.
+use Rattle.std.proofs.Common.{◌≡◌, ◌∙◌, ℕ, true, List, [], ◌∷◌, Option, Some, None, Ok, ap, pos}
 use Rattle.std.proofs.Common.{refl}
 use Rattle.std.specs.Int.{int_wrap}
 use Rattle.std.specs.Str.{chars}
@@ -13,8 +13,9 @@ use Rattle.il_code.specs.declared.body.Instr.{Instr}
 use Rattle.il_code.specs.declared.body.Operand.{Operand}
 use Rattle.il_code.specs.declared.body.Operand.TheVariants.{Nothing, Number as NumberOf, Token as TokenOf}
 use Rattle.il_code.specs.declared.opcode.Op.{Op}
-use Rattle.il_code.specs.Opcodes.{opcodes}
 use Rattle.il_code.specs.Instructions.{opcode_row}
+use Rattle.il_code.specs.Opcodes.{opcodes}
+use Rattle.il_code.specs.Reach.{end_of}
 use Rattle.ty_terms.specs.declared.names.MethodName.{MethodName}
 use Rattle.ty_terms.specs.declared.ty.Primitive.{Primitive}
 use Rattle.ty_terms.specs.declared.ty.Ty.{Ty}
@@ -25,14 +26,6 @@ use Rattle.ty_load.specs.declared.item.Item.TheVariants.{OfMethod}
 use Rattle.ty_load.specs.Tokens.{resolution}
 use Rattle.cli_layout.specs.Extents.{extent_of}
 use Rattle.cli_layout.specs.Types.{laid_of}
-use Rattle.il_verify.specs.Actions.{action_of}
-use Rattle.il_verify.specs.Inside.{is_inside}
-use Rattle.il_verify.specs.Rows.{row_of}
-use Rattle.il_verify.specs.Scope.{Scope}
-use Rattle.il_verify.specs.Flow.{reached_offsets, steps_of}
-use Rattle.il_verify.specs.Kinds.{is_reference}
-use Rattle.il_verify.specs.Verified.{least_stacks, verification}
-use Rattle.il_stacks.specs.Rounds.{stacks_by_rounds}
 use Rattle.il_stacks.specs.declared.effect.Effect.TheVariants.{Takes}
 use Rattle.il_stacks.specs.declared.effect.Results.{Results}
 use Rattle.il_stacks.specs.declared.effect.Results.TheVariants.{Nothing as NoResult, Always, AgreedNumber}
@@ -42,6 +35,14 @@ use Rattle.il_stacks.specs.declared.slot.StackSlot.TheVariants.{Int32}
 use Rattle.il_stacks.specs.declared.stack.Stack.{Stack}
 use Rattle.il_stacks.specs.declared.stack.Stack.TheVariants.{Slots}
 use Rattle.il_stacks.specs.declared.typing.OffsetStack.{OffsetStack}
+use Rattle.il_stacks.specs.Rounds.{stacks_by_rounds}
+use Rattle.il_verify.specs.Actions.{action_of}
+use Rattle.il_verify.specs.Flow.{handlers_of_body, steps_of}
+use Rattle.il_verify.specs.Inside.{is_inside}
+use Rattle.il_verify.specs.Kinds.{is_reference}
+use Rattle.il_verify.specs.Rows.{row_of}
+use Rattle.il_verify.specs.Scope.{Scope}
+use Rattle.il_verify.specs.Verified.{least_stacks, verification}
 use Rattle.cil_world.specs.Contents.{size_of}
 use Rattle.cil_world.specs.Entering.{StackBound, entry, text_of}
 use Rattle.cil_world.specs.Programs.{constant, endless, small_bounds, told, two_calls}
@@ -57,8 +58,19 @@ reading = 0
 
 -- what opens it opens the steps of a run
 stepping : ℕ
-unfolding cil_step cil_start row_of action_of runtime_call small_bounds
+unfolding cil_step cil_start row_of action_of runtime_call small_bounds stacks_by_rounds
 stepping = 0
+
+-- ---- the table of stacks of a body whose steps are known
+
+by_steps : (scope : Scope) (body : Body) (steps : List Step) (table : List (Option Stack))
+    → steps_of scope body ≡ steps
+    → stacks_by_rounds (is_reference scope.world) steps (handlers_of_body scope body) (end_of body.code) ≡ table
+    → least_stacks scope body ≡ table
+unfolding least_stacks
+by_steps scope body steps table are rounds =
+    ap (λ s. stacks_by_rounds (is_reference scope.world) s (handlers_of_body scope body) (end_of body.code)) are
+    ∙ rounds
 
 -- ---- names
 
@@ -84,54 +96,56 @@ body code = record { max_stack = 8; locals = 0; code = code; clauses = [] }
 abbrev scope : World → ℕ → List Ty → Scope
 scope world row args = record { world = world; name = method_of row; args = args; locals = []; result = int }
 
+-- what is known of the stack at an offset
 abbrev known : List StackSlot → Option Stack
 known slots = Some (Slots slots)
 
-abbrev at_offset : ℕ → List StackSlot → OffsetStack
-at_offset offset slots = record { offset = offset; stack = Slots slots }
+abbrev before : ℕ → List StackSlot → OffsetStack
+before offset slots = record { offset = offset; stack = Slots slots }
 
-abbrev step : ℕ → List ℕ → ℕ → Results → Step
-step at ways takes gives = record { at = at; ways = ways; effect = Takes takes gives }
+-- an instruction that goes on to the next, and one that doesn't
+abbrev onward : ℕ → ℕ → ℕ → Results → Step
+onward at next takes results = record { at = at; ways = next ∷ []; effect = Takes takes results }
+
+abbrev last_step : ℕ → ℕ → Step
+last_step at takes = record { at = at; ways = []; effect = Takes takes NoResult }
 
 -- ---- a constant
 
 abbrev constant_body : Body
 constant_body = body (instr 0 2 Op.LdcI4S (NumberOf (pos 42)) ∷ instr 2 3 Op.Ret Nothing ∷ [])
 
-abbrev constant_scope : Scope
-constant_scope = scope constant 1 []
+abbrev constant_steps : List Step
+constant_steps = onward 0 2 0 (Always Int32) ∷ last_step 2 1 ∷ []
 
 abbrev constant_stacks : List (Option Stack)
 constant_stacks = known [] ∷ None ∷ known (Int32 ∷ []) ∷ []
 
-abbrev constant_steps : List Step
-constant_steps = step 0 (2 ∷ []) 0 (Always Int32) ∷ step 2 [] 1 NoResult ∷ []
+constant_steps_are : steps_of (scope constant 1 []) constant_body ≡ constant_steps
+unfolding constant reading stacks_by_rounds row_of action_of
+constant_steps_are = simp types
 
-constant_reached : reached_offsets constant_body ≡ 0 ∷ 2 ∷ []
+constant_rounds : stacks_by_rounds (is_reference constant) constant_steps [] 3 ≡ constant_stacks
 unfolding stacks_by_rounds
-constant_reached = refl
+constant_rounds = refl
 
-constant_steps_are : steps_of constant_scope constant_body ≡ constant_steps
-unfolding constant reading row_of action_of
-constant_steps_are = simp (constant_reached, types)
-
-constant_settled : stacks_by_rounds (is_reference constant) constant_steps [] 3 ≡ constant_stacks
-unfolding stacks_by_rounds
-constant_settled = refl
-
-constant_least : least_stacks constant_scope constant_body ≡ constant_stacks
-unfolding least_stacks
+constant_least : least_stacks (scope constant 1 []) constant_body ≡ constant_stacks
 constant_least =
-    ap (λ steps. stacks_by_rounds (is_reference constant) steps [] 3) constant_steps_are ∙ constant_settled
+    by_steps (scope constant 1 []) constant_body constant_steps constant_stacks constant_steps_are constant_rounds
 
-constant_verified : verification constant (method_of 1) constant_body ≡ Ok (record { stacks = at_offset 0 [] ∷ at_offset 2 (Int32 ∷ []) ∷ []; values = [] })
-unfolding constant reading verification row_of action_of
-constant_verified = simp (constant_least, constant_steps_are, constant_reached, types)
+constant_verified : verification constant (method_of 1) constant_body
+    ≡ Ok (record { stacks = before 0 [] ∷ before 2 (Int32 ∷ []) ∷ []; values = [] })
+unfolding constant reading verification stacks_by_rounds row_of action_of
+constant_verified = simp (constant_least, types)
+
+constant_inside : is_inside constant (method_of 1) constant_body ≡ true
+unfolding constant reading is_inside stacks_by_rounds action_of
+constant_inside = simp types
 
 constant_entry : entry constant (method_of 1)
     ≡ Some (record { body = constant_body; scope = scope constant 1 []; bytes = 256 })
-unfolding constant reading opcodes opcode_row entry is_inside action_of
-constant_entry = simp (constant_verified, types)
+unfolding constant reading opcodes opcode_row entry
+constant_entry = simp (constant_inside, constant_verified, types)
 
 pub constant_run : cil_run constant small_bounds [] 2 ≡ Ended 42 (told [])
 unfolding constant reading stepping
@@ -152,40 +166,34 @@ next_body =
 abbrev next_scope : Scope
 next_scope = scope two_calls 2 (int ∷ [])
 
-abbrev next_offsets : List ℕ
-next_offsets = 0 ∷ 1 ∷ 2 ∷ 3 ∷ []
+abbrev next_steps : List Step
+next_steps =
+    onward 0 1 0 (Always Int32) ∷ onward 1 2 0 (Always Int32) ∷ onward 2 3 2 AgreedNumber ∷ last_step 3 1 ∷ []
 
 abbrev next_stacks : List (Option Stack)
 next_stacks = known [] ∷ known (Int32 ∷ []) ∷ known (Int32 ∷ Int32 ∷ []) ∷ known (Int32 ∷ []) ∷ []
 
-abbrev next_steps : List Step
-next_steps = step 0 (1 ∷ []) 0 (Always Int32) ∷ step 1 (2 ∷ []) 0 (Always Int32) ∷ step 2 (3 ∷ []) 2 AgreedNumber
-    ∷ step 3 [] 1 NoResult ∷ []
-
-next_reached : reached_offsets next_body ≡ next_offsets
-unfolding stacks_by_rounds
-next_reached = refl
-
 next_steps_are : steps_of next_scope next_body ≡ next_steps
-unfolding two_calls reading row_of action_of
-next_steps_are = simp (next_reached, types)
+unfolding two_calls reading stacks_by_rounds row_of action_of
+next_steps_are = simp types
 
-next_settled : stacks_by_rounds (is_reference two_calls) next_steps [] 4 ≡ next_stacks
+next_rounds : stacks_by_rounds (is_reference two_calls) next_steps [] 4 ≡ next_stacks
 unfolding stacks_by_rounds
-next_settled = refl
+next_rounds = refl
 
 next_least : least_stacks next_scope next_body ≡ next_stacks
-unfolding least_stacks
-next_least =
-    ap (λ steps. stacks_by_rounds (is_reference two_calls) steps [] 4) next_steps_are ∙ next_settled
+next_least = by_steps next_scope next_body next_steps next_stacks next_steps_are next_rounds
 
-next_verified : verification two_calls (method_of 2) next_body ≡ Ok (record { stacks = at_offset 0 [] ∷ at_offset 1 (Int32 ∷ [])
-    ∷ at_offset 2 (Int32 ∷ Int32 ∷ []) ∷ at_offset 3 (Int32 ∷ []) ∷ []; values = [] })
-unfolding two_calls reading verification row_of action_of
-next_verified = simp (next_least, next_steps_are, next_reached, types)
+next_verified : verification two_calls (method_of 2) next_body
+    ≡ Ok (record {
+      stacks = before 0 [] ∷ before 1 (Int32 ∷ []) ∷ before 2 (Int32 ∷ Int32 ∷ []) ∷ before 3 (Int32 ∷ []) ∷ [];
+      values = [];
+    })
+unfolding two_calls reading verification stacks_by_rounds row_of action_of
+next_verified = simp (next_least, types)
 
 next_inside : is_inside two_calls (method_of 2) next_body ≡ true
-unfolding two_calls reading is_inside action_of
+unfolding two_calls reading is_inside stacks_by_rounds action_of
 next_inside = simp (types)
 
 next_entry : entry two_calls (method_of 2) ≡ Some (record { body = next_body; scope = next_scope; bytes = 272 })
@@ -201,41 +209,36 @@ twice_body =
 abbrev twice_scope : Scope
 twice_scope = scope two_calls 1 ([])
 
-abbrev twice_offsets : List ℕ
-twice_offsets = 0 ∷ 1 ∷ 6 ∷ 11 ∷ []
+abbrev twice_steps : List Step
+twice_steps =
+    onward 0 1 0 (Always Int32) ∷ onward 1 6 1 (Always Int32) ∷ onward 6 11 1 (Always Int32) ∷ last_step 11 1
+    ∷ []
 
 abbrev twice_stacks : List (Option Stack)
 twice_stacks = known [] ∷ known (Int32 ∷ []) ∷ None ∷ None ∷ None ∷ None ∷ known (Int32 ∷ []) ∷ None ∷ None ∷ None
     ∷ None ∷ known (Int32 ∷ []) ∷ []
 
-abbrev twice_steps : List Step
-twice_steps = step 0 (1 ∷ []) 0 (Always Int32) ∷ step 1 (6 ∷ []) 1 (Always Int32)
-    ∷ step 6 (11 ∷ []) 1 (Always Int32) ∷ step 11 [] 1 NoResult ∷ []
-
-twice_reached : reached_offsets twice_body ≡ twice_offsets
-unfolding stacks_by_rounds
-twice_reached = refl
-
 twice_steps_are : steps_of twice_scope twice_body ≡ twice_steps
-unfolding two_calls reading row_of action_of
-twice_steps_are = simp (twice_reached, two_token, types)
+unfolding two_calls reading stacks_by_rounds row_of action_of
+twice_steps_are = simp (two_token, types)
 
-twice_settled : stacks_by_rounds (is_reference two_calls) twice_steps [] 12 ≡ twice_stacks
+twice_rounds : stacks_by_rounds (is_reference two_calls) twice_steps [] 12 ≡ twice_stacks
 unfolding stacks_by_rounds
-twice_settled = refl
+twice_rounds = refl
 
 twice_least : least_stacks twice_scope twice_body ≡ twice_stacks
-unfolding least_stacks
-twice_least =
-    ap (λ steps. stacks_by_rounds (is_reference two_calls) steps [] 12) twice_steps_are ∙ twice_settled
+twice_least = by_steps twice_scope twice_body twice_steps twice_stacks twice_steps_are twice_rounds
 
-twice_verified : verification two_calls (method_of 1) twice_body ≡ Ok (record { stacks = at_offset 0 [] ∷ at_offset 1 (Int32 ∷ [])
-    ∷ at_offset 6 (Int32 ∷ []) ∷ at_offset 11 (Int32 ∷ []) ∷ []; values = [] })
-unfolding two_calls reading verification row_of action_of
-twice_verified = simp (twice_least, twice_steps_are, twice_reached, two_token, types)
+twice_verified : verification two_calls (method_of 1) twice_body
+    ≡ Ok (record {
+      stacks = before 0 [] ∷ before 1 (Int32 ∷ []) ∷ before 6 (Int32 ∷ []) ∷ before 11 (Int32 ∷ []) ∷ [];
+      values = [];
+    })
+unfolding two_calls reading verification stacks_by_rounds row_of action_of
+twice_verified = simp (twice_least, two_token, types)
 
 twice_inside : is_inside two_calls (method_of 1) twice_body ≡ true
-unfolding two_calls reading is_inside action_of
+unfolding two_calls reading is_inside stacks_by_rounds action_of
 twice_inside = simp (two_token, types)
 
 twice_entry : entry two_calls (method_of 1) ≡ Some (record { body = twice_body; scope = twice_scope; bytes = 256 })
@@ -260,38 +263,34 @@ first_body =
 abbrev first_scope : Scope
 first_scope = scope endless 1 ([])
 
-abbrev first_offsets : List ℕ
-first_offsets = 0 ∷ 5 ∷ []
+abbrev first_steps : List Step
+first_steps =
+    onward 0 5 0 (Always Int32) ∷ last_step 5 1 ∷ []
 
 abbrev first_stacks : List (Option Stack)
 first_stacks = known [] ∷ None ∷ None ∷ None ∷ None ∷ known (Int32 ∷ []) ∷ []
 
-abbrev first_steps : List Step
-first_steps = step 0 (5 ∷ []) 0 (Always Int32) ∷ step 5 [] 1 NoResult ∷ []
-
-first_reached : reached_offsets first_body ≡ first_offsets
-unfolding stacks_by_rounds
-first_reached = refl
-
 first_steps_are : steps_of first_scope first_body ≡ first_steps
-unfolding endless reading row_of action_of
-first_steps_are = simp (first_reached, endless_token, types)
+unfolding endless reading stacks_by_rounds row_of action_of
+first_steps_are = simp (endless_token, types)
 
-first_settled : stacks_by_rounds (is_reference endless) first_steps [] 6 ≡ first_stacks
+first_rounds : stacks_by_rounds (is_reference endless) first_steps [] 6 ≡ first_stacks
 unfolding stacks_by_rounds
-first_settled = refl
+first_rounds = refl
 
 first_least : least_stacks first_scope first_body ≡ first_stacks
-unfolding least_stacks
-first_least =
-    ap (λ steps. stacks_by_rounds (is_reference endless) steps [] 6) first_steps_are ∙ first_settled
+first_least = by_steps first_scope first_body first_steps first_stacks first_steps_are first_rounds
 
-first_verified : verification endless (method_of 1) first_body ≡ Ok (record { stacks = at_offset 0 [] ∷ at_offset 5 (Int32 ∷ []) ∷ []; values = [] })
-unfolding endless reading verification row_of action_of
-first_verified = simp (first_least, first_steps_are, first_reached, endless_token, types)
+first_verified : verification endless (method_of 1) first_body
+    ≡ Ok (record {
+      stacks = before 0 [] ∷ before 5 (Int32 ∷ []) ∷ [];
+      values = [];
+    })
+unfolding endless reading verification stacks_by_rounds row_of action_of
+first_verified = simp (first_least, endless_token, types)
 
 first_inside : is_inside endless (method_of 1) first_body ≡ true
-unfolding endless reading is_inside action_of
+unfolding endless reading is_inside stacks_by_rounds action_of
 first_inside = simp (endless_token, types)
 
 first_entry : entry endless (method_of 1) ≡ Some (record { body = first_body; scope = first_scope; bytes = 256 })
@@ -306,38 +305,34 @@ second_body =
 abbrev second_scope : Scope
 second_scope = scope endless 2 ([])
 
-abbrev second_offsets : List ℕ
-second_offsets = 0 ∷ 5 ∷ []
+abbrev second_steps : List Step
+second_steps =
+    onward 0 5 0 (Always Int32) ∷ last_step 5 1 ∷ []
 
 abbrev second_stacks : List (Option Stack)
 second_stacks = known [] ∷ None ∷ None ∷ None ∷ None ∷ known (Int32 ∷ []) ∷ []
 
-abbrev second_steps : List Step
-second_steps = step 0 (5 ∷ []) 0 (Always Int32) ∷ step 5 [] 1 NoResult ∷ []
-
-second_reached : reached_offsets second_body ≡ second_offsets
-unfolding stacks_by_rounds
-second_reached = refl
-
 second_steps_are : steps_of second_scope second_body ≡ second_steps
-unfolding endless reading row_of action_of
-second_steps_are = simp (second_reached, endless_token, types)
+unfolding endless reading stacks_by_rounds row_of action_of
+second_steps_are = simp (endless_token, types)
 
-second_settled : stacks_by_rounds (is_reference endless) second_steps [] 6 ≡ second_stacks
+second_rounds : stacks_by_rounds (is_reference endless) second_steps [] 6 ≡ second_stacks
 unfolding stacks_by_rounds
-second_settled = refl
+second_rounds = refl
 
 second_least : least_stacks second_scope second_body ≡ second_stacks
-unfolding least_stacks
-second_least =
-    ap (λ steps. stacks_by_rounds (is_reference endless) steps [] 6) second_steps_are ∙ second_settled
+second_least = by_steps second_scope second_body second_steps second_stacks second_steps_are second_rounds
 
-second_verified : verification endless (method_of 2) second_body ≡ Ok (record { stacks = at_offset 0 [] ∷ at_offset 5 (Int32 ∷ []) ∷ []; values = [] })
-unfolding endless reading verification row_of action_of
-second_verified = simp (second_least, second_steps_are, second_reached, endless_token, types)
+second_verified : verification endless (method_of 2) second_body
+    ≡ Ok (record {
+      stacks = before 0 [] ∷ before 5 (Int32 ∷ []) ∷ [];
+      values = [];
+    })
+unfolding endless reading verification stacks_by_rounds row_of action_of
+second_verified = simp (second_least, endless_token, types)
 
 second_inside : is_inside endless (method_of 2) second_body ≡ true
-unfolding endless reading is_inside action_of
+unfolding endless reading is_inside stacks_by_rounds action_of
 second_inside = simp (endless_token, types)
 
 second_entry : entry endless (method_of 2) ≡ Some (record { body = second_body; scope = second_scope; bytes = 256 })

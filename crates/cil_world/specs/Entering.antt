@@ -29,7 +29,8 @@ use Rattle.cli_layout.specs.Types.{laid_of, statics_of}
 use Rattle.cli_layout.specs.declared.extent.Unlaid.{Unlaid}
 use Rattle.cli_layout.specs.declared.rows.TypeLayout.{TypeLayout}
 use Rattle.il_verify.specs.Inside.{is_inside, method_body}
-use Rattle.il_verify.specs.Kinds.{Content, Number, Object, Compound, Pointing, NoContent, content_of, is_value}
+use Rattle.il_verify.specs.Kinds.{Content, Number, Object, Compound, Pointing, NoContent, content_of, is_enum}
+use Rattle.il_verify.specs.Kinds.{is_value}
 use Rattle.il_verify.specs.Scope.{Callee, Scope, all_params, callee_of, scope_of, is_constructor, member_of}
 use Rattle.il_verify.specs.Verified.{Typing, verification}
 use Rattle.cil_world.specs.Contents.{deepest, own_fields, size_of}
@@ -78,12 +79,17 @@ fields_resolve world ty =
     length (own_fields world ty)
     == option_map_or (λ id. length (placed_rows world id)) (definition_of world ty) 0
 
--- what stands right above a type
+-- what a type extends, and its interfaces
 abbrev pub above_resolves : World → Ty → Bool
 above_resolves world ty = is_found (base_type world ty) && list_all is_found (interface_types world ty)
 
 abbrev pub class_resolves : World → Ty → Bool
 class_resolves world ty = above_resolves world ty && fields_resolve world ty
+
+-- an enum has bases and interfaces, too, though its place holds a number
+abbrev pub enum_resolves : World → Ty → Bool
+enum_resolves world ty =
+    not (option_map_or (is_enum world) (definition_of world ty) false) || class_resolves world ty
 
 -- a type with its bases, and the value types in its fields
 abbrev pub content_resolves : ℕ → World → Content → Bool
@@ -94,11 +100,16 @@ content_resolves left world NoContent = true
 content_resolves zero world (Compound ty) = false
 content_resolves (suc left) world (Compound ty) =
     class_resolves world ty
-    && list_all (λ field. content_resolves left world (content_of world field)) (own_fields world ty)
+    && list_all (λ field. enum_resolves world field && content_resolves left world (content_of world field))
+    (own_fields world ty)
+
+-- the type of a place
+abbrev pub is_known_place : World → Ty → Bool
+is_known_place world ty =
+    enum_resolves world ty && content_resolves (deepest world ty) world (content_of world ty)
 
 abbrev pub fields_are_known : World → Ty → Bool
-fields_are_known world ty =
-    list_all (λ field. content_resolves (deepest world field) world (content_of world field)) (own_fields world ty)
+fields_are_known world ty = list_all (is_known_place world) (own_fields world ty)
 
 abbrev pub is_known_class : World → Ty → Bool
 is_known_class world ty =
@@ -128,10 +139,10 @@ static_types world ty =
 
 abbrev pub is_known_static : World → Option Ty → Bool
 is_known_static world None = false
-is_known_static world (Some ty) = content_resolves (deepest world ty) world (content_of world ty)
+is_known_static world (Some ty) = is_known_place world ty
 
--- A type whose statics may be laid out: its bases and interfaces are known, and so are the types of its statics, which
--- stand in place of instance fields.
+-- A type whose statics may be laid out: its bases and interfaces are known, and so are the types of its statics. Its
+-- instance fields aren't asked for.
 abbrev pub may_lay_out_statics : World → Ty → Bool
 may_lay_out_statics world ty =
     list_all (above_resolves world) (classes_of world ty) && list_all (is_known_static world) (static_types world ty)
