@@ -198,7 +198,7 @@ holds_by layout pieces bounds fits text_is_so same_text rest_is_so zeros_is_so t
           data_covered;
     }
 
-tables_placeable : (pieces : Pieces) → is_placeable pieces ≡ true → list_all table_fixes_fit pieces.tables ≡ true
+pub tables_placeable : (pieces : Pieces) → is_placeable pieces ≡ true → list_all table_fixes_fit pieces.tables ≡ true
 tables_placeable pieces placeable =
     behind_both (nat_lt pieces.root (length pieces.tables) && list_all code_fixes_fit pieces.code)
     (list_all table_fixes_fit pieces.tables) placeable

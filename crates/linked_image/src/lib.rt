@@ -1,0 +1,7 @@
+//! Images of programs at the word level: that the machine which loads the file of placed pieces holds the program whose
+//! bodies they are the code of.
+#![tactic(auto)]
+
+mod laws;
+
+pub use laws::{placed_programs, selected_code};
