@@ -1,34 +1,29 @@
 -- The machine that the file of an image loads holds the image.
-use Rattle.std.proofs.Common.{◌≡◌, ◌∙◌, ℕ, zero, suc, ◌+◌, ◌-◌, ◌*◌, ◌^◌, ◌<◌, ◌≤◌, ◌&&◌, ◌||◌, Bool, true, false, cond}
-use Rattle.std.proofs.Common.{List, [], ◌∷◌, ◌++◌, length, map, take, replicate, Option, Some, None, slice_get}
-use Rattle.std.proofs.Common.{slice_index, All, AllPairs, get_or, ap, sym, subst, arith, refl, length-append, append_assoc}
+use Rattle.std.proofs.Common.{◌≡◌, ◌∙◌, ℕ, zero, suc, ◌+◌, ◌-◌, ◌<◌, ◌≤◌, ◌&&◌, Bool, true, false, cond}
+use Rattle.std.proofs.Common.{List, [], ◌∷◌, ◌++◌, length, replicate, Some, None}
+use Rattle.std.proofs.Common.{slice_index, get_or, ap, sym, subst, arith, refl, length-append}
 use Rattle.std.proofs.Common.{nat_le, nat_lt}
 use Rattle.std.specs.List.{list_all}
 use Rattle.std.proofs.lemmas.Bool.{and_from, and_right, le-leb, lt-leb, or_left, or_right}
 use Rattle.std.proofs.lemmas.List.{length-replicate}
 use Rattle.num_core.specs.declared.bounds.Bounds.{Bounds}
-use Rattle.num_core.specs.declared.fix.Fix.{Fix}
-use Rattle.num_core.specs.declared.fix.FixKind.{FixKind}
 use Rattle.rv_step.specs.Machine.{MachineState, covers}
-use Rattle.rv_step.specs.Memory.{Bytes, MayExecute, MayRead, MayWrite, byte_in, is_allowed}
+use Rattle.rv_step.specs.Memory.{Bytes, byte_in, is_allowed}
 use Rattle.rv_step.specs.Segments.{AreDisjoint, AreSegments, DoesNotWrap, Holds}
 use Rattle.rv_step.specs.declared.segment.Segment.{Segment}
 use Rattle.rv_step.proofs.Addresses.{from_each, if_false, if_true, split}
-use Rattle.elf_file.specs.Elf.{base, elf_header, headers_of, headers_size, load_header, machine_of, rest_segment}
+use Rattle.elf_file.specs.Elf.{base, elf_header, headers_of, load_header, machine_of, rest_segment}
 use Rattle.elf_file.specs.Elf.{text_segment, text_size as text_size_of, up_to_page}
 use Rattle.elf_file.specs.declared.layout.ElfLayout.{ElfLayout}
-use Rattle.image_plan.specs.Conditions.{TakesAddresses, are_apart, are_found, begins_with_auipc}
-use Rattle.image_plan.specs.Loaded.{HasPieces, HoldsImage}
-use Rattle.image_plan.specs.Places.{address_of, begins, code_at, code_size, end_of, front_at, routines, routines_at}
-use Rattle.image_plan.specs.Places.{table_size, tables_at, tables_end, text_end, zeros}
+use Rattle.image_plan.specs.Loaded.{HoldsImage}
+use Rattle.image_plan.specs.Places.{address_of, code_at, front_at, routines, routines_at}
+use Rattle.image_plan.specs.Places.{tables_at, tables_end, zeros}
 use Rattle.image_plan.specs.Planned.{SegmentsFit, code_fixes_fit, is_placeable, layout_of, rest_size, table_fixes_fit}
 use Rattle.image_plan.specs.Planned.{text_size, too_large}
 use Rattle.image_plan.specs.Written.{Finds, code_bytes, front, routine_bytes, table_bytes}
-use Rattle.image_plan.specs.declared.pieces.CodePiece.{CodePiece}
 use Rattle.image_plan.specs.declared.pieces.Pieces.{Pieces}
-use Rattle.image_plan.specs.declared.pieces.TablePiece.{TablePiece}
 use Rattle.image_plan.proofs.Fitting.{segments_fit, text_is}
-use Rattle.image_plan.proofs.Lengths.{behind_both, front_both, routines_length, tables_length}
+use Rattle.image_plan.proofs.Lengths.{behind_both, routines_length, tables_length}
 
 -- ---- two segments
 

@@ -1,6 +1,6 @@
 -- How an `auipc` and the word behind it lead from one address to another.
-use Rattle.std.proofs.Common.{◌≡◌, ◌∙◌, ◌⊎◌, inl, inr, ℕ, suc, ◌+◌, ◌-◌, ◌*◌, ◌/◌, ◌%◌, ◌^◌, ◌<◌, ◌≤◌, ◌==◌, Bool, cond}
-use Rattle.std.proofs.Common.{ℤ, pos, negsuc, ◌+ℤ◌, ◌-ℤ◌, Some, None, arith, refl, ap, sym}
+use Rattle.std.proofs.Common.{◌≡◌, ◌∙◌, ◌⊎◌, inl, inr, ℕ, suc, ◌+◌, ◌-◌, ◌*◌, ◌/◌, ◌%◌, ◌^◌, ◌<◌, ◌≤◌, cond}
+use Rattle.std.proofs.Common.{ℤ, pos, negsuc, ◌+ℤ◌, ◌-ℤ◌, Some, arith, refl, ap, sym}
 use Rattle.std.specs.Int.{cast_signed, w32}
 use Rattle.std.proofs.lemmas.Bool.Decides.{nat_tests}
 use Rattle.std.proofs.lemmas.Int.{ints}
@@ -120,7 +120,10 @@ lower_is bits w =
 -- what is an `auipc` by its opcode
 auipc_by : (f : Parts) → f.opcode ≡ 23 → instruction f ≡ Some (Ins.Auipc f.rd (u_imm_of f))
 unfolding instruction
-auipc_by f e = rw (e) refl
+auipc_by f e =
+    let with_opcode : ℕ → Parts =
+    λ n. record { opcode = n; rd = f.rd; funct3 = f.funct3; rs1 = f.rs1; rs2 = f.rs2; funct7 = f.funct7 } in
+    ap (λ n. instruction (with_opcode n)) e
 
 pub auipc_is : (bits w : ℕ) → w % 128 ≡ 23
     → instruction (parts_of (with_upper bits w)) ≡ Some (Ins.Auipc (parts_of (with_upper bits w)).rd (upper bits))

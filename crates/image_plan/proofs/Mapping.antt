@@ -1,5 +1,6 @@
 -- The map of an image leads into the parts of code.
-use Rattle.std.proofs.Common.{◌≡◌, ◌∙◌, ◌+◌, ◌-◌, ◌*◌, ◌<◌, ◌≤◌, ◌++◌, ◌∷◌, [], ℕ, zero, suc, List, length, map, Bool, true}
+use Rattle.std.proofs.Common.{◌≡◌, ◌∙◌, ◌+◌, ◌-◌, ◌*◌, ◌<◌, ◌≤◌, ◌++◌, ◌∷◌, [], ℕ, zero, suc, List, length, map, Bool}
+use Rattle.std.proofs.Common.{true}
 use Rattle.std.proofs.Common.{false, Some, slice_get, ap, sym, subst, arith, refl, nat_lt, true≢false}
 use Rattle.std.specs.List.{list_all}
 use Rattle.std.proofs.lemmas.Bool.{ltb-true}
@@ -10,7 +11,7 @@ use Rattle.ty_terms.specs.declared.nodes.PartKind.TheVariants.{Header, Runtime, 
 use Rattle.ty_terms.specs.declared.nodes.PartKind.TheVariants.{Record, Pad}
 use Rattle.elf_file.specs.Elf.{base, headers_size, up_to_page}
 use Rattle.image_plan.specs.Conditions.{NamesNodes, is_table_kind, map_fits}
-use Rattle.image_plan.specs.Mapped.{HasRows, IsMapped, IsRowOf, LiesIn, is_code}
+use Rattle.image_plan.specs.Mapped.{HasRows, IsMapped, IsRowOf, is_code}
 use Rattle.image_plan.specs.Mapped.IsMapped.{NoMore, Other, Body}
 use Rattle.image_plan.specs.Places.{code_at, code_size, front_at, table_size}
 use Rattle.image_plan.specs.Planned.{code_parts, map_of, map_row, map_rows, pad, part, parts_of, table_parts, text_size}

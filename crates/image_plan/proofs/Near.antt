@@ -1,5 +1,5 @@
 -- How far the pieces of an image reach.
-use Rattle.std.proofs.Common.{◌≡◌, ◌∙◌, ◌⊎◌, inl, inr, ℕ, zero, suc, ◌+◌, ◌*◌, ◌<◌, ◌≤◌, ◌&&◌, Bool, true}
+use Rattle.std.proofs.Common.{◌≡◌, ◌⊎◌, inl, inr, ℕ, zero, suc, ◌+◌, ◌<◌, ◌≤◌, ◌&&◌, Bool, true}
 use Rattle.std.proofs.Common.{false, cond, List, [], ◌∷◌, ◌++◌, length, map, Option, Some, None, slice_get, ap}
 use Rattle.std.proofs.Common.{arith, nat_le, nat_lt}
 use Rattle.std.specs.List.{list_all}
@@ -13,7 +13,8 @@ use Rattle.elf_file.specs.Elf.{base, machine_of, up_to_page}
 use Rattle.elf_file.specs.declared.layout.ElfLayout.{ElfLayout}
 use Rattle.image_plan.specs.Conditions.{TakesAddresses, are_apart, are_found, begins_with_auipc}
 use Rattle.image_plan.specs.Loaded.{HasPieces, HoldsImage}
-use Rattle.image_plan.specs.Places.{address_among, address_of, begins, code_at, code_names, code_size, end_of, given_names}
+use Rattle.image_plan.specs.Places.{address_among, address_of, begins, code_at, code_names, code_size, end_of}
+use Rattle.image_plan.specs.Places.{given_names}
 use Rattle.image_plan.specs.Places.{is_name, named, names, routine_begins, routine_names, routine_size, routines}
 use Rattle.image_plan.specs.Places.{routines_at, table_names, table_size}
 use Rattle.image_plan.specs.Places.{tables_at, tables_end, text_end}

@@ -1,16 +1,17 @@
 -- Tables with the addresses of their fixes, byte by byte, and in memory.
 use Rattle.std.proofs.Common.{◌≡◌, ◌∙◌, ◌⊎◌, inl, inr, ℕ, zero, suc, ◌+◌, ◌-◌, ◌<◌, ◌≤◌, Bool, true, false, ◌&&◌, ◌||◌}
-use Rattle.std.proofs.Common.{List, [], ◌∷◌, ◌++◌, length, map, take, drop, Option, Some, slice_get, slice_index, unwrap_or}
+use Rattle.std.proofs.Common.{List, [], ◌∷◌, ◌++◌, length, map, take, drop, Option, Some, slice_get, slice_index}
+use Rattle.std.proofs.Common.{unwrap_or}
 use Rattle.std.proofs.Common.{is_some, ap, sym, subst, arith, refl, nat_le, nat_lt, length-append, length-take, get_or}
 use Rattle.std.proofs.Common.{true≢false}
 use Rattle.std.specs.List.{list_all, list_any}
-use Rattle.std.proofs.lemmas.Bool.{cases_lt, leb-true, or_from, or_parts}
-use Rattle.std.proofs.lemmas.Bool.Decides.{nat_tests}
+use Rattle.std.proofs.lemmas.Bool.{and_from, and_left, and_right, cases_lt, le-leb, le-ltb, leb-true, lt-leb, lt-ltb}
+use Rattle.std.proofs.lemmas.Bool.{or_cases, or_from, or_parts}
 use Rattle.std.proofs.lemmas.List.{get_or_append_left, get_or-append_right, get_or-drop, get_or-take, length-replicate}
 use Rattle.byteorder.specs.Endian.{little_bytes}
 use Rattle.num_core.specs.declared.fix.Fix.{Fix}
 use Rattle.rv_step.specs.Machine.{MachineState, overwritten}
-use Rattle.rv_step.specs.Memory.{Bytes, Number, byte_in}
+use Rattle.rv_step.specs.Memory.{Bytes, Number}
 use Rattle.rv_step.proofs.Addresses.{at_each, from_each, split}
 use Rattle.image_plan.specs.Conditions.{are_apart, are_found, is_apart}
 use Rattle.image_plan.specs.Loaded.{HasTable, changes}
@@ -77,7 +78,7 @@ apart_by at k h = elim (cases_lt k at) [
 ]
   where
     both : (a n : ℕ) → a ≤ n → n < a + 8 → nat_le a n && nat_lt n (a + 8) ≡ true
-    both a n low high = grind (arith, nat_tests)
+    both a n low high = and_from (nat_le a n) (nat_lt n (a + 8)) (le-leb a n low) (lt-ltb n (a + 8) high)
 
 kept_byte : (find : Finds) (fixes : List Fix) (bytes : List ℕ) (k : ℕ)
     → list_all (λ (f : Fix). nat_le (f.at + 8) (length bytes)) fixes ≡ true → list_any (changes 8 k) fixes ≡ false
@@ -95,7 +96,17 @@ kept_byte find (fix ∷ fixes) bytes k fits h =
 
 not_changed : (fix other : Fix) (j : ℕ) → j < 8 → nat_le (fix.at + 8) other.at || nat_le (other.at + 8) fix.at ≡ true
     → nat_le other.at (fix.at + j) && nat_lt (fix.at + j) (other.at + 8) ≡ false
-not_changed fix other j h e = grind (arith, nat_tests)
+not_changed fix other j h e =
+    elim (or_cases (nat_le (fix.at + 8) other.at) (nat_le (other.at + 8) fix.at) e) [
+      | inl before ↦
+          let low : fix.at + 8 ≤ other.at = leb-true (fix.at + 8) other.at before in
+          and_left (nat_le other.at (fix.at + j)) (nat_lt (fix.at + j) (other.at + 8))
+          (lt-leb other.at (fix.at + j) (omega (arith, low, h)))
+      | inr behind ↦
+          let high : other.at + 8 ≤ fix.at = leb-true (other.at + 8) fix.at behind in
+          and_right (nat_le other.at (fix.at + j)) (nat_lt (fix.at + j) (other.at + 8))
+          (le-ltb (fix.at + j) (other.at + 8) (omega (arith, high)))
+    ]
 
 none_changes : (fix : Fix) (others : List Fix) (j : ℕ) → j < 8 → list_all (is_apart 8 fix) others ≡ true
     → list_any (changes 8 (fix.at + j)) others ≡ false
@@ -104,10 +115,6 @@ none_changes fix (other ∷ others) j h e =
     or_from (changes 8 (fix.at + j) other) (list_any (changes 8 (fix.at + j)) others)
     (not_changed fix other j h (front_both (is_apart 8 fix other) (list_all (is_apart 8 fix) others) e))
     (none_changes fix others j h (behind_both (is_apart 8 fix other) (list_all (is_apart 8 fix) others) e))
-
-either : (a b : Fix) (j : ℕ) → j < 8 → nat_le (a.at + 8) b.at || nat_le (b.at + 8) a.at ≡ true
-    → (b.at + j < a.at) ⊎ (a.at + 8 ≤ b.at + j)
-either a b j h e = grind (arith, nat_tests)
 
 -- each byte of a number that a fix puts
 address_there : (find : Finds) (fixes : List Fix) (bytes : List ℕ) (i : ℕ) (fix : Fix) (j : ℕ) → j < 8

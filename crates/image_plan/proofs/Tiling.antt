@@ -1,6 +1,8 @@
 -- The parts of an image tile its file.
-use Rattle.std.proofs.Common.{◌≡◌, ◌∙◌, ◌+◌, ◌-◌, ◌*◌, ◌/◌, ◌<◌, ◌≤◌, ◌++◌, ◌∷◌, ◌&&◌, ◌==◌, [], ℕ, zero, suc, List, length}
-use Rattle.std.proofs.Common.{map, take, drop, replicate, cond, Bool, true, false, Some, None, ap, sym, subst, arith, refl}
+use Rattle.std.proofs.Common.{◌≡◌, ◌∙◌, ◌+◌, ◌-◌, ◌*◌, ◌/◌, ◌<◌, ◌≤◌, ◌++◌, ◌∷◌, ◌&&◌, ◌==◌, [], ℕ, zero, suc, List}
+use Rattle.std.proofs.Common.{length}
+use Rattle.std.proofs.Common.{map, take, drop, replicate, cond, Bool, true, false, Some, None, ap, sym, subst, arith}
+use Rattle.std.proofs.Common.{refl}
 use Rattle.std.proofs.Common.{append_assoc, append-nil, length-append, nat_le, nat_lt, true≢false}
 use Rattle.std.specs.List.{list_all}
 use Rattle.std.proofs.lemmas.Bool.{and_from, eq-eqb, le-leb, lt-leb, lt-ltb}
@@ -14,7 +16,7 @@ use Rattle.elf_file.specs.Elf.{base, elf_header, file_of, headers_of, headers_si
 use Rattle.elf_file.specs.Elf.{text_size as text_size_of, up_to_page}
 use Rattle.elf_file.specs.declared.layout.ElfLayout.{ElfLayout}
 use Rattle.image_plan.specs.Conditions.{NamesNodes, has_nodes, is_table_kind}
-use Rattle.image_plan.specs.Places.{address_of, code_at, code_size, end_of, front_at, table_size, text_end, up_to_word}
+use Rattle.image_plan.specs.Places.{address_of, code_at, code_size, end_of, front_at, table_size, text_end}
 use Rattle.image_plan.specs.Planned.{code_fixes_fit, code_parts, is_placeable, layout_of, pad, part, parts_of}
 use Rattle.image_plan.specs.Planned.{table_fixes_fit, table_parts, text_size}
 use Rattle.image_plan.specs.Tiled.{IsTiled, is_in_second, is_pad_size, is_placed, is_placed_part, is_runtime, is_zero}

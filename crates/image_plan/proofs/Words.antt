@@ -1,11 +1,12 @@
 -- Code with the addresses of its fixes, word by word, and in memory.
-use Rattle.std.proofs.Common.{◌≡◌, ◌∙◌, ◌⊎◌, inl, inr, ℕ, zero, suc, ◌+◌, ◌-◌, ◌*◌, ◌%◌, ◌^◌, ◌<◌, ◌≤◌, ◌==◌, Bool, true}
+use Rattle.std.proofs.Common.{◌≡◌, ◌∙◌, ◌⊎◌, inl, inr, ℕ, zero, suc, ◌+◌, ◌-◌, ◌*◌, ◌%◌, ◌^◌, ◌<◌, ◌≤◌, Bool, true}
 use Rattle.std.proofs.Common.{false, cond, ◌&&◌, ◌||◌, List, [], ◌∷◌, ◌++◌, length, map, take, drop, Option, Some, None}
-use Rattle.std.proofs.Common.{slice_get, slice_index, unwrap_or, is_some, pos, ap, sym, subst, arith, refl, nat_le, nat_lt}
+use Rattle.std.proofs.Common.{slice_get, slice_index, unwrap_or, is_some, pos, ap, sym, subst, arith, refl, nat_le}
+use Rattle.std.proofs.Common.{nat_lt}
 use Rattle.std.proofs.Common.{true≢false}
 use Rattle.std.specs.List.{list_all, list_any}
-use Rattle.std.proofs.lemmas.Bool.{cases_lt, eqb-true, ltb-true, or_from, or_parts}
-use Rattle.std.proofs.lemmas.Bool.Decides.{nat_tests}
+use Rattle.std.proofs.lemmas.Bool.{and_from, and_left, and_right, cases_lt, eqb-true, le-leb, le-ltb, leb-true, lt-leb}
+use Rattle.std.proofs.lemmas.Bool.{lt-ltb, ltb-true, or_cases, or_from, or_parts}
 use Rattle.byteorder.specs.Endian.{little_bytes}
 use Rattle.num_core.specs.declared.fix.Fix.{Fix}
 use Rattle.rv_isa.specs.Parts.{parts_of}
@@ -14,7 +15,7 @@ use Rattle.rv_step.specs.Memory.{Bytes, Number}
 use Rattle.rv_step.proofs.Addresses.{split}
 use Rattle.rt_code.specs.Code.{upper}
 use Rattle.image_plan.specs.Conditions.{are_apart, are_found, is_apart, is_auipc}
-use Rattle.image_plan.specs.Loaded.{HasCode, LeadsTo, changes}
+use Rattle.image_plan.specs.Loaded.{HasCode, changes}
 use Rattle.image_plan.specs.Places.{address_of, begins, code_size}
 use Rattle.image_plan.specs.Written.{Finds, bits_between, bytes_of, code_bytes, target, with_address, with_addresses}
 use Rattle.image_plan.specs.Written.{with_both, with_lower, with_upper}
@@ -83,7 +84,7 @@ apart_by at k h = elim (cases_lt k at) [
 ]
   where
     both : (a n : ℕ) → a ≤ n → n < a + 2 → nat_le a n && nat_lt n (a + 2) ≡ true
-    both a n low high = grind (arith, nat_tests)
+    both a n low high = and_from (nat_le a n) (nat_lt n (a + 2)) (le-leb a n low) (lt-ltb n (a + 2) high)
 
 kept_word : (find : Finds) (begin : ℕ) (fixes : List Fix) (words : List ℕ) (k : ℕ)
     → list_any (changes 2 k) fixes ≡ false
@@ -97,7 +98,17 @@ kept_word find begin (fix ∷ fixes) words k h =
 -- a fix that is apart from others isn't changed by them
 not_changed : (fix other : Fix) (j : ℕ) → j < 2 → nat_le (fix.at + 2) other.at || nat_le (other.at + 2) fix.at ≡ true
     → nat_le other.at (fix.at + j) && nat_lt (fix.at + j) (other.at + 2) ≡ false
-not_changed fix other j h e = grind (arith, nat_tests)
+not_changed fix other j h e =
+    elim (or_cases (nat_le (fix.at + 2) other.at) (nat_le (other.at + 2) fix.at) e) [
+      | inl before ↦
+          let low : fix.at + 2 ≤ other.at = leb-true (fix.at + 2) other.at before in
+          and_left (nat_le other.at (fix.at + j)) (nat_lt (fix.at + j) (other.at + 2))
+          (lt-leb other.at (fix.at + j) (omega (arith, low, h)))
+      | inr behind ↦
+          let high : other.at + 2 ≤ fix.at = leb-true (other.at + 2) fix.at behind in
+          and_right (nat_le other.at (fix.at + j)) (nat_lt (fix.at + j) (other.at + 2))
+          (le-ltb (fix.at + j) (other.at + 2) (omega (arith, high)))
+    ]
 
 none_changes : (fix : Fix) (others : List Fix) (j : ℕ) → j < 2 → list_all (is_apart 2 fix) others ≡ true
     → list_any (changes 2 (fix.at + j)) others ≡ false
@@ -106,6 +117,19 @@ none_changes fix (other ∷ others) j h e =
     or_from (changes 2 (fix.at + j) other) (list_any (changes 2 (fix.at + j)) others)
     (not_changed fix other j h (front_both (is_apart 2 fix other) (list_all (is_apart 2 fix) others) e))
     (none_changes fix others j h (behind_both (is_apart 2 fix other) (list_all (is_apart 2 fix) others) e))
+
+-- so a word of one is none of the other's
+either : (a b : Fix) (j n : ℕ) → j < 2 → nat_le (a.at + 2) b.at || nat_le (b.at + 2) a.at ≡ true → n ≡ b.at + j
+    → (n < a.at) ⊎ (a.at + 1 < n)
+either a b j n h e is =
+    elim (or_cases (nat_le (a.at + 2) b.at) (nat_le (b.at + 2) a.at) e) [
+      | inl before ↦
+          let low : a.at + 2 ≤ b.at = leb-true (a.at + 2) b.at before in
+          inr (omega (arith, low, is))
+      | inr behind ↦
+          let high : b.at + 2 ≤ a.at = leb-true (b.at + 2) a.at behind in
+          inl (omega (arith, high, is, h))
+    ]
 
 -- the two words of each fix have its address
 pub record HasAddress (find : Finds) (begin : ℕ) (fix : Fix) (words new : List ℕ) : Type 0 where
@@ -155,18 +179,14 @@ address_there find begin (x ∷ fixes) words (suc i) fix apart fits e =
     address_there find begin fixes new i fix (behind_both test (are_apart 2 fixes) apart)
     (subst (λ n. list_all (λ (f : Fix). nat_lt (f.at + 1) n) fixes ≡ true) (sym size) left) e in
     let before : slice_index new fix.at ≡ slice_index words fix.at =
-    elsewhere bits x.at words fix.at (either x fix 0 (omega arith) away fix.at (omega arith)) in
+    elsewhere bits x.at words fix.at (either x fix 0 fix.at (omega arith) away (omega arith)) in
     let before' : slice_index new (suc fix.at) ≡ slice_index words (suc fix.at) =
-    elsewhere bits x.at words (suc fix.at) (either x fix 1 (omega arith) away (suc fix.at) (omega arith)) in
+    elsewhere bits x.at words (suc fix.at) (either x fix 1 (suc fix.at) (omega arith) away (omega arith)) in
     let own : ℕ = bits_between (begin + 4 * fix.at) (target find fix) in
     record {
       first = rest.first ∙ ap (with_upper own) before;
       second = rest.second ∙ ap (with_lower own) before';
     }
-  where
-    either : (a b : Fix) (j : ℕ) → j < 2 → nat_le (a.at + 2) b.at || nat_le (b.at + 2) a.at ≡ true → (n : ℕ)
-        → n ≡ b.at + j → (n < a.at) ⊎ (a.at + 1 < n)
-    either a b j h e n is = grind (arith, nat_tests)
 
 -- ---- in memory
 
@@ -203,7 +223,7 @@ code_there m find at (suc k) begin (p ∷ pieces) piece e e' bytes =
     code_there m find (at + code_size p) k begin pieces piece e e' (subst (λ n. Bytes m n rest) size both.1)
 
 -- what is found, if something is
-found_by : (o : Option ℕ) → is_some o ≡ true → (address : ℕ) × (o ≡ Some address)
+pub found_by : (o : Option ℕ) → is_some o ≡ true → (address : ℕ) × (o ≡ Some address)
 found_by None h = absurd (true≢false (sym h))
 found_by (Some address) h = (address, refl)
 

@@ -1,9 +1,9 @@
 -- Which body stands at an address, and which item's code.
-use Rattle.std.proofs.Common.{◌≡◌, ◌∙◌, ◌⊎◌, inl, inr, ℕ, zero, suc, ◌+◌, ◌*◌, ◌<◌, ◌≤◌, ◌==◌, ◌&&◌, ◌||◌, Bool, true, false}
-use Rattle.std.proofs.Common.{cond, not, List, [], ◌∷◌, ◌++◌, length, map, Option, Some, None, slice_get, arith, refl, ap}
+use Rattle.std.proofs.Common.{◌≡◌, ◌∙◌, inl, inr, ℕ, zero, suc, ◌+◌, ◌*◌, ◌<◌, ◌≤◌, ◌==◌, ◌||◌, Bool, true, false}
+use Rattle.std.proofs.Common.{cond, not, List, [], ◌∷◌, ◌++◌, length, map, Option, Some, None, slice_get, arith, refl}
+use Rattle.std.proofs.Common.{ap}
 use Rattle.std.proofs.Common.{sym, subst, true≢false, nat_le, nat_lt, append_assoc}
 use Rattle.std.specs.List.{list_all, list_any}
-use Rattle.std.specs.Option.{option_and_then, option_map}
 use Rattle.std.proofs.lemmas.Bool.{and_from, and_left, and_right, cases_Bool, eq-eqb, le-leb, lt-leb, lt-ltb, ne_eqb}
 use Rattle.std.proofs.lemmas.Bool.{eqb-true, or_left}
 use Rattle.num_core.specs.declared.fix.FixKind.{FixKind}
@@ -19,7 +19,7 @@ use Rattle.image_plan.specs.declared.pieces.CodePiece.{CodePiece}
 use Rattle.image_plan.specs.declared.pieces.TablePiece.{TablePiece}
 use Rattle.image_plan.proofs.Lengths.{behind_both, front_both}
 use Rattle.image_plan.proofs.Listed.{all_at}
-use Rattle.rv_words.specs.Placing.{Around, around_among, body_at, has_around, is_around}
+use Rattle.rv_words.specs.Placing.{Around, around_among, body_at, has_around}
 use Rattle.linked_image.specs.Program.{are_for_others, body_among, first_node, gives_no_code, is_for, item_among}
 use Rattle.linked_image.specs.Program.{nodes_apart}
 use Rattle.linked_image.specs.Selected.{AreSelected, IsSelected}
@@ -56,11 +56,11 @@ selected_at (b ∷ bodies) (p ∷ pieces) (suc k) piece body all e e' = selected
 -- ---- from a piece to its item and body
 
 -- a node of a piece
-some_node : (nodes : List ℕ) → has_nodes nodes ≡ true → (node : ℕ) × (first_node nodes ≡ Some node)
+pub some_node : (nodes : List ℕ) → has_nodes nodes ≡ true → (node : ℕ) × (first_node nodes ≡ Some node)
 some_node [] h = absurd (true≢false (sym h))
 some_node (node ∷ nodes) h = (node, refl)
 
-first_is_for : (nodes : List ℕ) (node : ℕ) → first_node nodes ≡ Some node → is_for node nodes ≡ true
+pub first_is_for : (nodes : List ℕ) (node : ℕ) → first_node nodes ≡ Some node → is_for node nodes ≡ true
 first_is_for [] node e = cc
 first_is_for (x ∷ nodes) node e =
     let same : x ≡ node = cc in

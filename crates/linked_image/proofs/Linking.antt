@@ -1,7 +1,6 @@
 -- The words of a piece with the addresses of its fixes are those of the linked code of its body.
-use Rattle.std.proofs.Common.{◌≡◌, ◌∙◌, ◌⊎◌, inl, inr, ℕ, zero, suc, ◌+◌, ◌-◌, ◌*◌, ◌/◌, ◌%◌, ◌^◌, ◌<◌, ◌≤◌, ℤ, pos, negsuc}
-use Rattle.std.proofs.Common.{List, [], ◌∷◌, ◌++◌, All, length, map, take, drop, Some, slice_get, arith, refl, ap, sym, subst}
-use Rattle.std.specs.List.{flat_map}
+use Rattle.std.proofs.Common.{◌≡◌, ◌∙◌, ◌⊎◌, inl, inr, ℕ, zero, suc, ◌+◌, ◌-◌, ◌*◌, ◌%◌, ◌^◌, ◌<◌, ◌≤◌, ℤ, pos, negsuc}
+use Rattle.std.proofs.Common.{List, [], ◌∷◌, ◌++◌, All, map, take, drop, Some, slice_get, arith, refl, ap, sym}
 use Rattle.std.proofs.lemmas.Bool.Decides.{nat_tests}
 use Rattle.byteorder.specs.Endian.{little_bytes}
 use Rattle.num_core.specs.Bits.{signed, twos_complement}
@@ -13,7 +12,7 @@ use Rattle.lir_core.specs.Program.{WordProgram}
 use Rattle.lir_core.specs.declared.body.LirBody.{LirBody}
 use Rattle.rt_code.specs.Code.{lower, upper}
 use Rattle.rv_gen.specs.Lines.{lines_of}
-use Rattle.rv_gen.specs.Placing.{code_of, far_places, fixes_of, places_in}
+use Rattle.rv_gen.specs.Placing.{code_of, fixes_of}
 use Rattle.image_plan.specs.Written.{bytes_of, with_address, with_addresses}
 use Rattle.image_plan.specs.Written.{with_both as words_with_both, with_lower as word_with_lower}
 use Rattle.image_plan.specs.Written.{with_upper as word_with_upper}

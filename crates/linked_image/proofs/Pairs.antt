@@ -1,11 +1,10 @@
 -- The two instructions that take an address: in lines, and at the places of fixes in code.
-use Rattle.std.proofs.Common.{◌≡◌, ◌∙◌, ℕ, zero, suc, ◌+◌, ◌*◌, ◌%◌, ◌<◌, ◌≤◌, ◌==◌, ◌&&◌, Bool, true, ℤ, pos}
-use Rattle.std.proofs.Common.{List, [], ◌∷◌, ◌++◌, length, map, slice_index, arith, refl, ap, sym, subst, length-append}
+use Rattle.std.proofs.Common.{◌≡◌, ℕ, zero, suc, ◌+◌, ◌%◌, ◌<◌, ◌≤◌, Bool, true, ℤ}
+use Rattle.std.proofs.Common.{List, [], ◌∷◌, ◌++◌, length, map, slice_index, arith, refl, ap, subst, length-append}
 use Rattle.std.proofs.Common.{append_assoc, nat_le, nat_lt}
 use Rattle.std.specs.List.{list_all}
 use Rattle.std.proofs.lemmas.Bool.{and_from, eq-eqb, le-leb, leb-true, lt-ltb, or_left}
 use Rattle.num_core.specs.declared.fix.Fix.{Fix}
-use Rattle.num_core.specs.declared.fix.FixKind.{FixKind}
 use Rattle.rv_isa.specs.declared.ins.Ins.{Ins}
 use Rattle.rv_isa.specs.Instructions.{word_of}
 use Rattle.rv_gen.specs.Placing.{code_from, fix_at, fixes_from, line_code, longest, size}

@@ -1,22 +1,18 @@
 -- The pieces of selected bodies, placed, are a placing of their program.
-use Rattle.std.proofs.Common.{◌≡◌, ◌∙◌, ◌≢◌, ℕ, zero, suc, ◌+◌, ◌-◌, ◌*◌, ◌%◌, ◌^◌, ◌<◌, ◌≤◌, ◌==◌, ◌&&◌, Bool, true, false}
-use Rattle.std.proofs.Common.{cond, List, [], ◌∷◌, ◌++◌, length, map, Option, Some, None, slice_get, arith, refl, ap, sym}
+use Rattle.std.proofs.Common.{◌≡◌, ◌∙◌, ℕ, zero, suc, ◌+◌, ◌-◌, ◌<◌, ◌≤◌, Bool, true}
+use Rattle.std.proofs.Common.{cond, List, [], ◌∷◌, ◌++◌, length, map, Some, None, slice_get, arith, refl, ap, sym}
 use Rattle.std.proofs.Common.{subst, take, inl, inr}
 use Rattle.std.specs.List.{list_all}
 use Rattle.std.specs.Option.{option_and_then, option_map}
 use Rattle.std.proofs.lemmas.Bool.{cases_Bool, cases_lt, le-leb, lt-leb}
 use Rattle.num_core.specs.declared.bounds.Bounds.{Bounds}
-use Rattle.num_core.specs.declared.fix.FixKind.{FixKind}
-use Rattle.num_core.specs.declared.fix.FixKind.TheVariants.{Code as ABody, Routine as ARoutine}
+use Rattle.num_core.specs.declared.fix.FixKind.TheVariants.{Routine as ARoutine}
 use Rattle.rv_isa.specs.declared.ins.Ins.{Ins}
 use Rattle.lir_core.specs.Check.{is_sound}
-use Rattle.lir_core.specs.Frame.{fixed_bytes}
 use Rattle.lir_core.specs.Layout.{IsLaidOut}
-use Rattle.lir_core.specs.Memory.{Cell, FlatMemory, Missing}
+use Rattle.lir_core.specs.Memory.{Missing}
 use Rattle.lir_core.specs.Program.{WordProgram}
-use Rattle.lir_core.specs.Slots.{addresses}
 use Rattle.lir_core.specs.declared.body.LirBody.{LirBody}
-use Rattle.rt_code.specs.Code.{code_of as routine_code}
 use Rattle.rt_code.specs.Effects.{number_of}
 use Rattle.rt_code.specs.declared.routines.Routine.{Routine as RoutineOf}
 use Rattle.rt_code.specs.declared.routines.Routine.TheVariants.{Start, End, WriteByte, ReadByte, StackBound, HeapBound}
@@ -26,23 +22,24 @@ use Rattle.rv_gen.specs.Placing.{code_of}
 use Rattle.elf_file.specs.Elf.{base}
 use Rattle.image_plan.specs.Conditions.{has_nodes}
 use Rattle.image_plan.specs.Places.{address_of, begins, code_at, code_names, code_size, end_of, routine_begins}
-use Rattle.image_plan.specs.Places.{routine_size, routines, routines_at, table_names, table_size, tables_at, tables_end}
-use Rattle.image_plan.specs.Places.{text_end, zeros}
+use Rattle.image_plan.specs.Places.{routine_size, routines, routines_at, table_names, tables_at, tables_end}
+use Rattle.image_plan.specs.Places.{text_end}
 use Rattle.image_plan.specs.Planned.{most_bytes, rest_size, table_fixes_fit, too_large}
-use Rattle.image_plan.specs.Written.{Finds, table_bytes}
+use Rattle.image_plan.specs.Written.{table_bytes}
 use Rattle.image_plan.specs.declared.pieces.CodePiece.{CodePiece}
 use Rattle.image_plan.specs.declared.pieces.Pieces.{Pieces}
 use Rattle.image_plan.proofs.Ending.{begin_of}
 use Rattle.image_plan.proofs.Holding.{tables_placeable}
 use Rattle.image_plan.proofs.Lengths.{tables_length}
-use Rattle.image_plan.proofs.Listed.{all_at, length_mapped, there}
+use Rattle.image_plan.proofs.Listed.{all_at, there}
 use Rattle.image_plan.proofs.Near.{IsSmall, address_near, is_small, piece_within}
-use Rattle.rv_words.specs.Placing.{Around, IsBodyPlaced, IsPlacing, Placing, around_at, body_at, data_bytes, reach}
+use Rattle.rv_words.specs.Placing.{Around, IsBodyPlaced, IsPlacing, Placing, body_at}
 use Rattle.rv_words.specs.Words.{cell_of}
 use Rattle.linked_image.specs.Program.{IsProgram, body_among, first_node, image_of, is_for, item_among, placing_of}
 use Rattle.linked_image.specs.Program.{program_of}
 use Rattle.linked_image.specs.Selected.{AreSelected, IsSelected}
-use Rattle.linked_image.proofs.Finding.{AreSome, FoundCode, FoundItem, IsTold, Standing, around_is, body_is, first_is_for}
+use Rattle.linked_image.proofs.Finding.{AreSome, FoundCode, FoundItem, IsTold, Standing, around_is, body_is}
+use Rattle.linked_image.proofs.Finding.{first_is_for}
 use Rattle.linked_image.proofs.Finding.{found_code, found_item, item_is, none_of_tables, past_routines, selected_at}
 use Rattle.linked_image.proofs.Finding.{some_node}
 use Rattle.linked_image.proofs.Suited.{words_length}

@@ -1,23 +1,23 @@
 -- The code of a body is a piece as placing wants it.
-use Rattle.std.proofs.Common.{◌≡◌, ◌∙◌, ℕ, zero, suc, Some, slice_get, ◌+◌, ◌<◌, ◌≤◌, Bool, true, ◌&&◌, List, [], ◌∷◌, length, map, slice_index}
+use Rattle.std.proofs.Common.{◌≡◌, ◌∙◌, ℕ, zero, suc, Some, slice_get, ◌+◌, ◌<◌, Bool, true, ◌&&◌, List, [], ◌∷◌}
+use Rattle.std.proofs.Common.{length, map, slice_index}
 use Rattle.std.proofs.Common.{arith, refl, ap, sym, subst, nat_lt}
 use Rattle.std.specs.List.{list_all}
 use Rattle.std.proofs.lemmas.Bool.{and_from, lt-ltb, ltb-true}
 use Rattle.num_core.specs.declared.fix.Fix.{Fix}
-use Rattle.rv_isa.specs.declared.ins.Ins.{Ins}
 use Rattle.rv_isa.specs.Instructions.{word_of}
-use Rattle.lir_core.specs.Check.{is_sound, marks_are_places, ops_are_sound, vars_are_slots}
+use Rattle.lir_core.specs.Check.{marks_are_places, ops_are_sound, vars_are_slots}
 use Rattle.lir_core.specs.declared.body.LirBody.{LirBody}
 use Rattle.lir_core.specs.declared.op.LirOp.{LirOp}
 use Rattle.rv_gen.specs.Lines.{lines_of}
-use Rattle.rv_gen.specs.Placing.{code_of, far_places, fixes_of, map_of, place_in, places_in, rows_by, words_of}
+use Rattle.rv_gen.specs.Placing.{code_of, far_places, fixes_of, place_in, places_in, rows_by, words_of}
 use Rattle.image_plan.specs.Conditions.{are_apart, begins_with_auipc, is_auipc, map_fits}
 use Rattle.image_plan.specs.Planned.{code_fixes_fit}
 use Rattle.image_plan.specs.declared.pieces.CodePiece.{CodePiece}
 use Rattle.image_plan.proofs.Lengths.{behind_both, front_both}
 use Rattle.image_plan.proofs.Listed.{length_mapped}
 use Rattle.rv_words.proofs.LinkedCode.{Parts, parts}
-use Rattle.rv_words.proofs.Places.{begin_inside, begin_of, stop_at}
+use Rattle.rv_words.proofs.Places.{begin_inside, stop_at}
 use Rattle.rv_words.proofs.Plain.{of_enters, of_operation}
 use Rattle.linked_image.specs.Selected.{IsSelected}
 use Rattle.linked_image.proofs.Linkable.{of_lines}
