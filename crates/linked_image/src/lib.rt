@@ -3,5 +3,7 @@
 #![tactic(auto)]
 
 mod laws;
+mod ranges;
 
 pub use laws::{placed_programs, selected_code};
+pub use ranges::tables_are_bytes;
