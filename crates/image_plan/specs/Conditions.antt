@@ -58,8 +58,8 @@ is_auipc word = word % 128 == 23
 abbrev pub begins_with_auipc : CodePiece → Bool
 begins_with_auipc piece = list_all (λ (fix : Fix). is_auipc (slice_index piece.code.words fix.at)) piece.code.fixes
 
--- All that a fix names has an address, what it changes in code begins with an `auipc`, and no two fixes of a piece change
--- the same.
+-- All that a fix names has an address, what it changes in code begins with an `auipc`, and no two fixes of a piece
+-- change the same.
 pub record TakesAddresses (pieces : Pieces) : Type 0 where
   pub code_names :
       list_all (λ (piece : CodePiece). are_found (address_of pieces) piece.code.fixes) pieces.code ≡ true

@@ -55,8 +55,8 @@ image_of pieces =
 
 -- ---- all of it
 
--- Items are the numbers by which pieces name their nodes. The heap begins where the tables end, and the frames lie right
--- behind it.
+-- Items are the numbers by which pieces name their nodes. The heap begins where the tables end, and the frames lie
+-- right behind it.
 abbrev pub program_of : List LirBody → Pieces → Bounds → WordProgram
 program_of bodies pieces bounds = record {
   body_of = body_among bodies pieces.code;
