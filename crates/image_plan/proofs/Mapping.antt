@@ -21,6 +21,7 @@ use Rattle.image_plan.specs.declared.pieces.TablePiece.{TablePiece}
 use Rattle.image_plan.specs.declared.plan.MapRow.{MapRow}
 use Rattle.image_plan.proofs.Lengths.{behind_both, front_both}
 use Rattle.image_plan.proofs.Listed.{all_at, length_mapped, mapped_at}
+use Rattle.image_plan.proofs.Tiling.{some_pad}
 
 -- ---- the rows of one body
 
@@ -71,7 +72,9 @@ rows_of_body at piece fits =
 passed_pad : (at size : ℕ) (parts : List Part) (pieces : List CodePiece) (rows : List MapRow)
     → IsMapped parts pieces rows → IsMapped (pad at size ++ parts) pieces rows
 passed_pad at zero parts pieces rows mapped = mapped
-passed_pad at (suc size) parts pieces rows mapped = Other (part Pad [] at (suc size)) parts pieces rows refl mapped
+passed_pad at (suc size) parts pieces rows mapped =
+    subst (λ (pads : List Part). IsMapped (pads ++ parts) pieces rows) (sym (some_pad at size))
+    (Other (part Pad [] at (suc size)) parts pieces rows refl mapped)
 
 table_is_no_code : (kind : PartKind) → is_table_kind kind ≡ true → is_code kind ≡ false
 table_is_no_code Header k = refl

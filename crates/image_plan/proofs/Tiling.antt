@@ -5,7 +5,7 @@ use Rattle.std.proofs.Common.{map, take, drop, replicate, cond, Bool, true, fals
 use Rattle.std.proofs.Common.{refl}
 use Rattle.std.proofs.Common.{append_assoc, append-nil, length-append, nat_le, nat_lt, true≢false}
 use Rattle.std.specs.List.{list_all}
-use Rattle.std.proofs.lemmas.Bool.{and_from, eq-eqb, le-leb, lt-leb, lt-ltb}
+use Rattle.std.proofs.lemmas.Bool.{and_from, eq-eqb, le-leb, lt-leb, lt-ltb, ne_eqb}
 use Rattle.std.proofs.lemmas.List.{length-replicate}
 use Rattle.num_core.specs.declared.bounds.Bounds.{Bounds}
 use Rattle.ty_terms.specs.declared.nodes.Part.{Part}
@@ -36,12 +36,19 @@ one_more : (at : ℕ) (first : Part) (parts : List Part) → first.at ≡ at
     → tiled_to at (first ∷ parts) ≡ tiled_to (at + first.size) parts
 one_more at first parts h = ap (λ (b : Bool). cond b (tiled_to (at + first.size) parts) None) (eq-eqb first.at at h)
 
+-- zeros, of which there are some
+pub some_pad : (at size : ℕ) → pad at (suc size) ≡ part Pad [] at (suc size) ∷ []
+some_pad at size =
+    ap (λ (b : Bool). cond b [] (part Pad [] at (suc size) ∷ [])) (ne_eqb (suc size) 0 (λ e. omega (arith, e)))
+
 -- the same of zeros, of which there may be none
 pad_more : (at size : ℕ) (parts : List Part) → tiled_to at (pad at size ++ parts) ≡ tiled_to (at + size) parts
 pad_more at zero parts =
     let here : at ≡ at + 0 = omega arith in
     ap (λ n. tiled_to n parts) here
-pad_more at (suc size) parts = one_more at (part Pad [] at (suc size)) parts refl
+pad_more at (suc size) parts =
+    ap (λ (pads : List Part). tiled_to at (pads ++ parts)) (some_pad at size)
+    ∙ one_more at (part Pad [] at (suc size)) parts refl
 
 code_tiled : (at : ℕ) (pieces : List CodePiece) (parts : List Part)
     → tiled_to at (code_parts at pieces ++ parts) ≡ tiled_to (end_of at (map code_size pieces)) parts
@@ -141,9 +148,10 @@ pad_placed layout at (suc size) front mid behind file here long zeros fits =
     ∙ ap (λ n. take (length mid) (drop n (front ++ (mid ++ behind)))) (sym here)
     ∙ between front mid behind in
     let none : list_all is_zero (take (suc size) (drop at (file_of layout))) ≡ true = ap (list_all is_zero) taken ∙ zeros in
-    and_from (is_placed_part layout (part Pad [] at (suc size))) true
+    subst (λ (pads : List Part). list_all (is_placed_part layout) pads ≡ true) (sym (some_pad at size))
+    (and_from (is_placed_part layout (part Pad [] at (suc size))) true
     (and_from (list_all is_zero (take (suc size) (drop at (file_of layout))))
-    (is_pad_size (second_at layout) at (suc size)) none (fits (omega arith))) refl
+    (is_pad_size (second_at layout) at (suc size)) none (fits (omega arith))) refl)
 
 code_placed : (layout : ElfLayout) (at : ℕ) (pieces : List CodePiece)
     → end_of at (map code_size pieces) ≤ text_size_of layout
@@ -256,7 +264,7 @@ no_runtime_in_code at (piece ∷ pieces) =
 
 no_runtime_in_pad : (at size : ℕ) → runtime_bytes (pad at size) ≡ 0
 no_runtime_in_pad at zero = refl
-no_runtime_in_pad at (suc size) = omega arith
+no_runtime_in_pad at (suc size) = ap runtime_bytes (some_pad at size)
 
 table_is_none : (kind : PartKind) → is_table_kind kind ≡ true → is_runtime kind ≡ false
 table_is_none Header k = refl

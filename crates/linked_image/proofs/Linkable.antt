@@ -245,7 +245,7 @@ of_converts_checked narrows.U8 kinds.U4 x o = of_zeros 32 7 x
 of_converts_checked narrows.U8 kinds.I8 x o = of_unsigned x o
 of_converts_checked narrows.U8 kinds.U8 x o = one_line (Ins.Addi 7 x (pos 0))
 
--- a division: the test for 0 comes first, and what stands behind it has no label
+-- a division: the test for 0 comes first
 of_refuses : (kind : Kind) (x y overflow : ℕ) → AllTake (refuses_least kind x y overflow)
 of_refuses kinds.I4 x y overflow = (tt, (tt, (tt, (tt, (tt, tt)))))
 of_refuses kinds.U4 x y overflow = tt
@@ -254,11 +254,9 @@ of_refuses kinds.U8 x y overflow = tt
 
 of_divides : (part : DivisionPart) (kind : Kind) (r x y if_zero overflow : ℕ)
     → AllTake (divides part kind r x y if_zero overflow)
-of_divides part kind r x y if_zero overflow = (
-    tt,
-    append_take (refuses_least kind x y overflow) (Single (divides_by part kind r x y) ∷ [])
-        (of_refuses kind x y overflow) (tt, tt),
-  )
+of_divides part kind r x y if_zero overflow =
+    (tt, append_take (refuses_least kind x y overflow) (Single (divides_by part kind r x y) ∷ [])
+    (of_refuses kind x y overflow) (tt, tt))
 
 -- ---- memory
 
@@ -515,14 +513,8 @@ of_enters : (body : LirBody) → AllTake (enters body)
 of_enters body =
     let homes : List ℕ = take home_count body.vars in
     let last : List Line = saves_homes 0 homes ++ loads_homes 0 homes in
-    (
-        tt,
-        append_take (takes_frame body.frame) (Single (Ins.Sd 2 1 (pos return_at)) ∷ last) (of_frame body.frame) (
-          tt,
-          append_take (saves_homes 0 homes) (loads_homes 0 homes) (of_saved 0 homes)
-              (of_loaded 0 homes),
-        ),
-      )
+    (tt, append_take (takes_frame body.frame) (Single (Ins.Sd 2 1 (pos return_at)) ∷ last) (of_frame body.frame)
+    (tt, append_take (saves_homes 0 homes) (loads_homes 0 homes) (of_saved 0 homes) (of_loaded 0 homes)))
 
 -- ---- each operation
 
