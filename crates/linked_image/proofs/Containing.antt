@@ -222,7 +222,7 @@ has_program bodies pieces bounds m is small holds =
     let bytes : List ℕ = table_bytes (address_of pieces) pieces.tables in
     let size : tables_at pieces + length bytes ≡ tables_end pieces =
     tables_length (address_of pieces) (tables_at pieces) pieces.tables (tables_placeable pieces is.placeable) in
-    let data : rest_size pieces bounds ≡ data_bytes (placing_of bodies pieces bounds) = omega (arith, tables) in
+    let span : rest_size pieces bounds ≡ data_bytes (placing_of bodies pieces bounds) = omega (arith, tables) in
     let far : base ≤ code_at = omega arith in
     record {
       segments = holds.segments;
@@ -238,8 +238,8 @@ has_program bodies pieces bounds m is small holds =
           let whole : base + text_size pieces ≡ text_end pieces = omega (arith, within.0, within.1, far) in
           allowed_within (λ s. s.read) base (text_size pieces) begin 4 m.segments (omega (arith, within.0, far))
           (omega (arith, within.1, some, long, whole)) holds.read_text;
-      read = subst (MayRead m (tables_at pieces)) data holds.read_data;
-      write = subst (MayWrite m (tables_at pieces)) data holds.write_data;
+      read = subst (MayRead m (tables_at pieces)) span holds.read_data;
+      write = subst (MayWrite m (tables_at pieces)) span holds.write_data;
       small = λ address byte low high e.
           elim (cases_lt address (tables_end pieces)) [
             | inl less ↦ one_small m (tables_at pieces) address byte bytes
@@ -247,6 +247,6 @@ has_program bodies pieces bounds m is small holds =
             | inr more ↦
                 let count : length (replicate (zeros bounds) 0) ≡ zeros bounds = length-replicate (zeros bounds) 0 in
                 one_small m (tables_end pieces) address byte (replicate (zeros bounds) 0) (small_zeros (zeros bounds))
-                holds.zeros more (omega (arith, high, data, count, tables)) e
+                holds.zeros more (omega (arith, high, span, count, tables)) e
           ];
     }
