@@ -19,7 +19,7 @@ use Rattle.image_plan.proofs.Listed.{length_mapped}
 use Rattle.rv_words.proofs.LinkedCode.{Parts, parts}
 use Rattle.rv_words.proofs.Places.{begin_inside, stop_at}
 use Rattle.rv_words.proofs.Plain.{of_enters, of_operation}
-use Rattle.linked_image.specs.Selected.{IsSelected}
+use Rattle.linked_image.specs.Selected.{AreSelected, IsSelected, SuitsPlacing}
 use Rattle.linked_image.proofs.Linkable.{of_lines}
 use Rattle.linked_image.proofs.Pairs.{IsPair, PairsAt, lines_apart, pairs_begin, pairs_of_lines, pairs_within}
 
@@ -33,20 +33,20 @@ pub words_length : (body : LirBody) (piece : CodePiece) → IsSelected body piec
     → length piece.code.words ≡ length (code_of body)
 words_length body piece is = ap length is.words ∙ length_mapped word_of (code_of body)
 
-pub fits : (body : LirBody) (piece : CodePiece) → IsSelected body piece.code → code_fixes_fit piece ≡ true
+fits : (body : LirBody) (piece : CodePiece) → IsSelected body piece.code → code_fixes_fit piece ≡ true
 fits body piece is =
     subst (λ n. list_all (λ (fix : Fix). nat_lt (fix.at + 1) n) piece.code.fixes ≡ true) (sym (words_length body piece is))
     (subst (λ (fixes : List Fix). list_all (λ (fix : Fix). nat_lt (fix.at + 1) (length (code_of body))) fixes ≡ true)
     (sym is.fixes) (pairs_within (code_of body) (fixes_of body) (pairs_of body)))
 
-pub begins : (body : LirBody) (piece : CodePiece) → IsSelected body piece.code → begins_with_auipc piece ≡ true
+begins : (body : LirBody) (piece : CodePiece) → IsSelected body piece.code → begins_with_auipc piece ≡ true
 begins body piece is =
     subst (λ (words : List ℕ). list_all (λ (fix : Fix). is_auipc (slice_index words fix.at)) piece.code.fixes ≡ true)
     (sym is.words)
     (subst (λ (fixes : List Fix). list_all (λ (fix : Fix). is_auipc (slice_index (words_of body) fix.at)) fixes ≡ true)
     (sym is.fixes) (pairs_begin (code_of body) (fixes_of body) (pairs_of body)))
 
-pub lies_apart : (body : LirBody) (piece : CodePiece) → IsSelected body piece.code
+lies_apart : (body : LirBody) (piece : CodePiece) → IsSelected body piece.code
     → are_apart 2 piece.code.fixes ≡ true
 lies_apart body piece is =
     subst (λ (fixes : List Fix). are_apart 2 fixes ≡ true) (sym is.fixes)
@@ -86,10 +86,30 @@ rows_within body n (mark ∷ marks) is all =
     (lt-ltb place n (omega (arith, inside, is)))
     (rows_within body n marks is (behind_both (nat_lt mark.0 (length body.ops)) left all))
 
-pub map_within : (body : LirBody) (piece : CodePiece) → IsSelected body piece.code → map_fits piece ≡ true
+map_within : (body : LirBody) (piece : CodePiece) → IsSelected body piece.code → map_fits piece ≡ true
 map_within body piece is =
     let marks : marks_are_places body ≡ true =
     behind_both (ops_are_sound body) (marks_are_places body)
     (front_both (ops_are_sound body && marks_are_places body) (vars_are_slots body) is.sound) in
     subst (λ (rows : List (ℕ × ℕ)). list_all (λ (row : ℕ × ℕ). nat_lt row.0 (length piece.code.words)) rows ≡ true)
     (sym is.map) (rows_within body (length piece.code.words) body.marks (words_length body piece is) marks)
+
+-- ---- of all pieces
+
+all_selected : (test : CodePiece → Bool)
+    → ((body : LirBody) (piece : CodePiece) → IsSelected body piece.code → test piece ≡ true)
+    → (bodies : List LirBody) (pieces : List CodePiece) → AreSelected bodies pieces → list_all test pieces ≡ true
+all_selected test each [] [] all = refl
+all_selected test each [] (piece ∷ pieces) all = absurd all
+all_selected test each (body ∷ bodies) [] all = absurd all
+all_selected test each (body ∷ bodies) (piece ∷ pieces) all =
+    and_from (test piece) (list_all test pieces) (each body piece all.0)
+    (all_selected test each bodies pieces all.1)
+
+pub suits : (bodies : List LirBody) (pieces : List CodePiece) → AreSelected bodies pieces → SuitsPlacing pieces
+suits bodies pieces all = record {
+  fits = all_selected code_fixes_fit fits bodies pieces all;
+  begins = all_selected begins_with_auipc begins bodies pieces all;
+  apart = all_selected (λ (piece : CodePiece). are_apart 2 piece.code.fixes) lies_apart bodies pieces all;
+  maps = all_selected map_fits map_within bodies pieces all;
+}

@@ -1,34 +1,24 @@
 //! What holds of bodies that were selected and placed. Each function does nothing, and ensures its laws of all of them.
-ghost use Rattle.std.specs.Prelude.{◌≡◌, ℕ, List, None, Some, true};
+ghost use Rattle.std.specs.Prelude.{◌≡◌, ℕ, List, None, Some};
 ghost use Rattle.num_core.specs.declared.bounds.Bounds.{Bounds};
 ghost use Rattle.rv_step.specs.Machine.{MachineState};
 ghost use Rattle.lir_core.specs.Calls.{Given};
 ghost use Rattle.lir_core.specs.declared.body.LirBody.{LirBody};
 ghost use Rattle.rt_code.specs.Effects.{Root};
 ghost use Rattle.elf_file.specs.Elf.{machine_of};
-ghost use Rattle.image_plan.specs.Conditions.{are_apart, begins_with_auipc, map_fits};
 ghost use Rattle.image_plan.specs.Loaded.{HoldsImage};
-ghost use Rattle.image_plan.specs.Planned.{code_fixes_fit, layout_of, too_large};
+ghost use Rattle.image_plan.specs.Planned.{layout_of, too_large};
 ghost use Rattle.image_plan.specs.declared.pieces.CodePiece.{CodePiece};
 ghost use Rattle.image_plan.specs.declared.pieces.Pieces.{Pieces};
 ghost use Rattle.rv_words.specs.Loaded.{GivesArgument, IsLoaded};
 ghost use Rattle.rv_words.specs.Placing.{HasProgram, IsPlacing};
 ghost use Rattle.linked_image.specs.Program.{HasRoot, IsProgram, body_among, front_of, placing_of};
-ghost use Rattle.linked_image.specs.Selected.{IsSelected};
+ghost use Rattle.linked_image.specs.Selected.{AreSelected, SuitsPlacing};
 
-/// The code of a body is a piece as placing wants it.
+/// The code of bodies makes pieces as placing wants them.
 pub fn selected_code()
-    // what a fix changes lies in the code
-    ensures fits { (body : LirBody) (piece : CodePiece) → IsSelected body piece.code →
-        code_fixes_fit piece ≡ true }
-    // and begins with an `auipc`
-    ensures begins { (body : LirBody) (piece : CodePiece) → IsSelected body piece.code →
-        begins_with_auipc piece ≡ true }
-    // no two fixes change the same
-    ensures apart { (body : LirBody) (piece : CodePiece) → IsSelected body piece.code →
-        are_apart 2 piece.code.fixes ≡ true }
-    // and each place in the map is one of a word
-    ensures map { (body : LirBody) (piece : CodePiece) → IsSelected body piece.code → map_fits piece ≡ true }
+    ensures suited { (bodies : List LirBody) (pieces : List CodePiece) → AreSelected bodies pieces →
+        SuitsPlacing pieces }
 {}
 
 /// The machine that the file of placed pieces loads holds the program of their bodies.
