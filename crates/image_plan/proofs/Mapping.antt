@@ -49,7 +49,7 @@ rows_of_body at piece fits =
     record {
       nodes = refl;
       size = length_mapped (map_row begin piece.method) piece.code.map;
-      rows = λ i item row e e'.
+      each = λ i item row e e'.
           let is : map_row begin piece.method item ≡ row =
           row_is begin piece.method piece.code.map i item row e e' in
           let within : item.0 < n =

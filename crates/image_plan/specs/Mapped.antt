@@ -32,7 +32,7 @@ pub record IsRowOf (part : Part) (piece : CodePiece) (item : ℕ × ℕ) (row : 
 pub record HasRows (part : Part) (piece : CodePiece) (rows : List MapRow) : Type 0 where
   pub nodes : part.nodes ≡ piece.nodes
   pub size : length rows ≡ length piece.code.map
-  pub rows : (i : ℕ) (item : ℕ × ℕ) (row : MapRow) → slice_get piece.code.map i ≡ Some item
+  pub each : (i : ℕ) (item : ℕ × ℕ) (row : MapRow) → slice_get piece.code.map i ≡ Some item
       → slice_get rows i ≡ Some row → IsRowOf part piece item row
   pub apart : (i j : ℕ) (item item' : ℕ × ℕ) (row row' : MapRow) → slice_get piece.code.map i ≡ Some item
       → slice_get piece.code.map j ≡ Some item' → slice_get rows i ≡ Some row → slice_get rows j ≡ Some row'
