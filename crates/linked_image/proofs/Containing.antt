@@ -245,7 +245,7 @@ has_program bodies pieces bounds m is small holds =
             | inl less ↦ one_small m (tables_at pieces) address byte bytes
                 (small_tables (address_of pieces) pieces.tables is.bytes) holds.tables low (omega (arith, less, size)) e
             | inr more ↦
-                let count : length (replicate (zeros bounds) 0) ≡ zeros bounds = length-replicate (zeros bounds) 0 in
+                let count : length {A = ℕ} (replicate (zeros bounds) 0) ≡ zeros bounds = length-replicate (zeros bounds) 0 in
                 one_small m (tables_end pieces) address byte (replicate (zeros bounds) 0) (small_zeros (zeros bounds))
                 holds.zeros more (omega (arith, high, span, count, tables)) e
           ];

@@ -251,6 +251,10 @@ pub past_routines : (number item : ℕ) (begins : List ℕ) (rest : List Name)
 past_routines number item [] rest = refl
 past_routines number item (begin ∷ begins) rest = past_routines (number + 1) item begins rest
 
+not_so : (b : Bool) → not b ≡ true → b ≡ false
+not_so true e = absurd (true≢false (sym e))
+not_so false e = refl
+
 past_gifts : (at item : ℕ) (gifts : List (FixKind × ℕ)) (rest : List Name)
     → list_all (λ (gift : FixKind × ℕ). not (kind_number gift.0 == kind_number ABody)) gifts ≡ true
     → address_among (given_names at gifts ++ rest) ABody item ≡ address_among rest ABody item
