@@ -1,5 +1,5 @@
 -- The machine that the file of an image loads holds the image.
-use Rattle.std.proofs.Common.{◌≡◌, ◌∙◌, ℕ, zero, suc, ◌+◌, ◌-◌, ◌<◌, ◌≤◌, ◌&&◌, Bool, true, false, cond}
+use Rattle.std.proofs.Common.{◌≡◌, ◌∙◌, ℕ, zero, suc, ◌+◌, ◌-◌, ◌<◌, ◌≤◌, ◌&&◌, Bool, true, false}
 use Rattle.std.proofs.Common.{List, [], ◌∷◌, ◌++◌, length, replicate, Some, None}
 use Rattle.std.proofs.Common.{slice_index, get_or, ap, sym, subst, arith, refl, length-append}
 use Rattle.std.proofs.Common.{nat_le, nat_lt}
@@ -9,7 +9,7 @@ use Rattle.std.proofs.lemmas.List.{length-replicate}
 use Rattle.num_core.specs.declared.bounds.Bounds.{Bounds}
 use Rattle.rv_step.specs.Machine.{MachineState, covers}
 use Rattle.rv_step.specs.Memory.{Bytes, byte_in, is_allowed}
-use Rattle.rv_step.specs.Segments.{AreDisjoint, AreSegments, DoesNotWrap, Holds}
+use Rattle.rv_step.specs.Segments.{AreDisjoint, AreSegments, DoesNotWrap}
 use Rattle.rv_step.specs.declared.segment.Segment.{Segment}
 use Rattle.rv_step.proofs.Addresses.{from_each, if_false, if_true, split}
 use Rattle.elf_file.specs.Elf.{base, elf_header, headers_of, load_header, machine_of, rest_segment}

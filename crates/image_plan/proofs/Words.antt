@@ -1,6 +1,6 @@
 -- Code with the addresses of its fixes, word by word, and in memory.
-use Rattle.std.proofs.Common.{◌≡◌, ◌∙◌, ◌⊎◌, inl, inr, ℕ, zero, suc, ◌+◌, ◌-◌, ◌*◌, ◌%◌, ◌^◌, ◌<◌, ◌≤◌, Bool, true}
-use Rattle.std.proofs.Common.{false, cond, ◌&&◌, ◌||◌, List, [], ◌∷◌, ◌++◌, length, map, take, drop, Option, Some, None}
+use Rattle.std.proofs.Common.{◌≡◌, ◌∙◌, ◌⊎◌, inl, inr, ℕ, zero, suc, ◌+◌, ◌*◌, ◌%◌, ◌^◌, ◌<◌, ◌≤◌, Bool, true}
+use Rattle.std.proofs.Common.{false, ◌&&◌, ◌||◌, List, [], ◌∷◌, ◌++◌, length, map, take, drop, Option, Some, None}
 use Rattle.std.proofs.Common.{slice_get, slice_index, unwrap_or, is_some, pos, ap, sym, subst, arith, refl, nat_le}
 use Rattle.std.proofs.Common.{nat_lt}
 use Rattle.std.proofs.Common.{true≢false}
@@ -23,7 +23,7 @@ use Rattle.image_plan.specs.declared.pieces.CodePiece.{CodePiece}
 use Rattle.image_plan.specs.declared.pieces.Pieces.{Pieces}
 use Rattle.image_plan.proofs.Leading.{auipc_is, first_kept, leads, near, second_kept}
 use Rattle.image_plan.proofs.Lengths.{address_length, addresses_length, behind_both, front_both, words_length}
-use Rattle.image_plan.proofs.Listed.{all_at, there}
+use Rattle.image_plan.proofs.Listed.{all_at}
 
 -- ---- one fix
 
@@ -261,23 +261,26 @@ has_code m pieces begin piece fits found auipc apart low lows bytes =
           (all_at (λ (f : Fix). is_auipc (slice_index words f.at)) fixes i fix auipc e) in
           let has : HasAddress find begin fix words new = address_there find begin fixes words i fix apart fits e in
           let next : begin + 4 * suc fix.at ≡ from + 4 = omega arith in
-          let behind : suc fix.at ≡ fix.at + 1 = omega arith in
-          (to, some.1, record {
-            first = with_upper bits (slice_index words fix.at);
-            second = with_lower bits (slice_index words (suc fix.at));
-            first_there = subst (Number m from 4) has.first
-                (word_in m begin new fix.at (omega (arith, within, size)) bytes);
-            second_there = subst (λ a. Number m a 4 (with_lower bits (slice_index words (suc fix.at)))) next
-                (subst (Number m (begin + 4 * suc fix.at) 4) has.second
-                (word_in m begin new (suc fix.at) (omega (arith, within, size)) bytes));
-            register = (parts_of (with_upper bits (slice_index words fix.at))).rd;
-            upper = upper bits;
-            is_auipc = auipc_is bits (slice_index words fix.at) opcode;
-            sum = leads from (target find fix) (slice_index words (suc fix.at)) (omega (arith, within, low))
-                (subst (λ n. n < near) (sym is) (lows fix to some.1))
-                ∙ ap pos is;
-            first_kept = first_kept bits (slice_index words fix.at);
-            second_kept = second_kept bits (slice_index words (suc fix.at))
-                ∙ ap (λ n. slice_index words n % 2 ^ 20) behind;
-          });
+          let behind : suc fix.at ≡ fix.at + 1 = omega arith in (
+            to,
+            some.1,
+            record {
+              first = with_upper bits (slice_index words fix.at);
+              second = with_lower bits (slice_index words (suc fix.at));
+              first_there = subst (Number m from 4) has.first
+                  (word_in m begin new fix.at (omega (arith, within, size)) bytes);
+              second_there = subst (λ a. Number m a 4 (with_lower bits (slice_index words (suc fix.at)))) next
+                  (subst (Number m (begin + 4 * suc fix.at) 4) has.second
+                  (word_in m begin new (suc fix.at) (omega (arith, within, size)) bytes));
+              register = (parts_of (with_upper bits (slice_index words fix.at))).rd;
+              upper = upper bits;
+              is_auipc = auipc_is bits (slice_index words fix.at) opcode;
+              sum = leads from (target find fix) (slice_index words (suc fix.at)) (omega (arith, within, low))
+                  (subst (λ n. n < near) (sym is) (lows fix to some.1))
+                  ∙ ap pos is;
+              first_kept = first_kept bits (slice_index words fix.at);
+              second_kept = second_kept bits (slice_index words (suc fix.at))
+                  ∙ ap (λ n. slice_index words n % 2 ^ 20) behind;
+            },
+          );
     }

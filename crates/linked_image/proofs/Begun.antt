@@ -2,7 +2,7 @@
 use Rattle.std.proofs.Common.{◌≡◌, ◌∙◌, inl, inr, ℕ, zero, suc, ◌+◌, ◌-◌, ◌^◌, ◌<◌, ◌≤◌, ◌&&◌, Bool, true}
 use Rattle.std.proofs.Common.{List, [], ◌∷◌, ◌++◌, All, length, map, take, drop, replicate, Option, Some, None}
 use Rattle.std.proofs.Common.{slice_get}
-use Rattle.std.proofs.Common.{slice_index, unwrap_or, get_or, arith, refl, ap, sym, subst, nat_lt, length-take, min}
+use Rattle.std.proofs.Common.{slice_index, unwrap_or, arith, refl, ap, sym, subst, nat_lt, length-take, min}
 use Rattle.std.proofs.Common.{take-append-drop}
 use Rattle.std.specs.List.{list_all}
 use Rattle.std.proofs.lemmas.Bool.{cases_lt, ltb-true}
@@ -12,7 +12,7 @@ use Rattle.num_core.specs.declared.bounds.Bounds.{Bounds}
 use Rattle.num_core.specs.declared.fix.FixKind.TheVariants.{Code as ABody}
 use Rattle.rv_isa.specs.declared.ins.Ins.{Ins}
 use Rattle.rv_isa.specs.Instructions.{word_of}
-use Rattle.rv_step.specs.Machine.{MachineState, register}
+use Rattle.rv_step.specs.Machine.{MachineState}
 use Rattle.rv_step.specs.Memory.{Bytes, Number, byte_in}
 use Rattle.rv_step.proofs.Addresses.{allowed_within, at_each, split}
 use Rattle.rv_code.specs.Code.{CodeAt, text_of}
@@ -23,7 +23,7 @@ use Rattle.lir_core.specs.Program.{WordProgram}
 use Rattle.lir_core.specs.Tells.{CellTellsNoMore}
 use Rattle.lir_core.specs.declared.body.LirBody.{LirBody}
 use Rattle.rt_code.specs.Code.{code_of as routine_code}
-use Rattle.rt_code.specs.Effects.{Front, FrontAt, Root, RootAt}
+use Rattle.rt_code.specs.Effects.{FrontAt, Root, RootAt}
 use Rattle.rt_code.specs.declared.routines.Routine.TheVariants.{Start}
 use Rattle.elf_file.specs.Elf.{base, machine_of}
 use Rattle.image_plan.specs.Loaded.{HoldsImage}

@@ -218,16 +218,16 @@ found_code at (b ∷ bodies) (p ∷ pieces) rest item address all none e =
     ∙ node_names at item p.nodes (others ++ rest)) ∙ e in
     elim (cases_Bool (is_for item p.nodes)) as (λ _. FoundCode at (b ∷ bodies) (p ∷ pieces) item address) [
       | inl mine ↦ record {
-          k = 0;
-          piece = p;
-          body = b;
-          standing = record {
-            piece_there = refl;
-            begin_there = sym (if_true (is_for item p.nodes) (Some at) behind mine) ∙ parted;
-            body_there = refl;
-          };
-          body_told = if_true (is_for item p.nodes) (Some b) (body_among bodies pieces item) mine;
-        }
+        k = 0;
+        piece = p;
+        body = b;
+        standing = record {
+          piece_there = refl;
+          begin_there = sym (if_true (is_for item p.nodes) (Some at) behind mine) ∙ parted;
+          body_there = refl;
+        };
+        body_told = if_true (is_for item p.nodes) (Some b) (body_among bodies pieces item) mine;
+      }
       | inr other ↦
           let found : FoundCode (at + code_size p) bodies pieces item address =
           found_code (at + code_size p) bodies pieces rest item address all.1 none

@@ -254,9 +254,11 @@ of_refuses kinds.U8 x y overflow = tt
 
 of_divides : (part : DivisionPart) (kind : Kind) (r x y if_zero overflow : ℕ)
     → AllTake (divides part kind r x y if_zero overflow)
-of_divides part kind r x y if_zero overflow =
-    (tt, append_take (refuses_least kind x y overflow) (Single (divides_by part kind r x y) ∷ [])
-    (of_refuses kind x y overflow) (tt, tt))
+of_divides part kind r x y if_zero overflow = (
+  tt,
+  append_take (refuses_least kind x y overflow) (Single (divides_by part kind r x y) ∷ [])
+      (of_refuses kind x y overflow) (tt, tt),
+)
 
 -- ---- memory
 
@@ -512,9 +514,11 @@ of_frame bytes = by (is_near bytes)
 of_enters : (body : LirBody) → AllTake (enters body)
 of_enters body =
     let homes : List ℕ = take home_count body.vars in
-    let last : List Line = saves_homes 0 homes ++ loads_homes 0 homes in
-    (tt, append_take (takes_frame body.frame) (Single (Ins.Sd 2 1 (pos return_at)) ∷ last) (of_frame body.frame)
-    (tt, append_take (saves_homes 0 homes) (loads_homes 0 homes) (of_saved 0 homes) (of_loaded 0 homes)))
+    let last : List Line = saves_homes 0 homes ++ loads_homes 0 homes in (
+      tt,
+      append_take (takes_frame body.frame) (Single (Ins.Sd 2 1 (pos return_at)) ∷ last) (of_frame body.frame)
+          (tt, append_take (saves_homes 0 homes) (loads_homes 0 homes) (of_saved 0 homes) (of_loaded 0 homes)),
+    )
 
 -- ---- each operation
 

@@ -13,7 +13,7 @@ use Rattle.lir_core.specs.declared.body.LirBody.{LirBody}
 use Rattle.rt_code.specs.Code.{lower, upper}
 use Rattle.rv_gen.specs.Lines.{lines_of}
 use Rattle.rv_gen.specs.Placing.{code_of, fixes_of}
-use Rattle.image_plan.specs.Written.{bytes_of, with_address, with_addresses}
+use Rattle.image_plan.specs.Written.{bytes_of, with_addresses}
 use Rattle.image_plan.specs.Written.{with_both as words_with_both, with_lower as word_with_lower}
 use Rattle.image_plan.specs.Written.{with_upper as word_with_upper}
 use Rattle.image_plan.specs.declared.pieces.CodePiece.{CodePiece}

@@ -21,7 +21,7 @@ use Rattle.rv_gen.specs.Lines.{lines_of}
 use Rattle.rv_gen.specs.Placing.{code_of}
 use Rattle.elf_file.specs.Elf.{base}
 use Rattle.image_plan.specs.Conditions.{has_nodes}
-use Rattle.image_plan.specs.Places.{address_of, begins, code_at, code_names, code_size, end_of, routine_begins}
+use Rattle.image_plan.specs.Places.{address_of, code_at, code_names, code_size, end_of, routine_begins}
 use Rattle.image_plan.specs.Places.{routine_size, routines, routines_at, table_names, tables_at, tables_end}
 use Rattle.image_plan.specs.Places.{text_end}
 use Rattle.image_plan.specs.Planned.{most_bytes, rest_size, table_fixes_fit, too_large}
@@ -33,7 +33,7 @@ use Rattle.image_plan.proofs.Holding.{tables_placeable}
 use Rattle.image_plan.proofs.Lengths.{tables_length}
 use Rattle.image_plan.proofs.Listed.{all_at, there}
 use Rattle.image_plan.proofs.Near.{IsSmall, address_near, is_small, piece_within}
-use Rattle.rv_words.specs.Placing.{Around, IsBodyPlaced, IsPlacing, Placing, body_at}
+use Rattle.rv_words.specs.Placing.{Around, IsBodyPlaced, IsPlacing, body_at}
 use Rattle.rv_words.specs.Words.{cell_of}
 use Rattle.linked_image.specs.Program.{IsProgram, body_among, first_node, image_of, is_for, item_among, placing_of}
 use Rattle.linked_image.specs.Program.{program_of}
@@ -192,9 +192,10 @@ seven Unhandled = omega arith
 -- where a routine begins
 pub routine_begin : (which : RoutineOf) → (begin : ℕ) × (slice_get routine_begins (number_of which) ≡ Some begin)
 routine_begin which =
-    let few : number_of which < length (map routine_size routines) = seven which in
-    (end_of routines_at (take (number_of which) (map routine_size routines)),
-    begin_of routines_at (map routine_size routines) (number_of which) few)
+    let few : number_of which < length (map routine_size routines) = seven which in (
+      end_of routines_at (take (number_of which) (map routine_size routines)),
+      begin_of routines_at (map routine_size routines) (number_of which) few,
+    )
 
 -- it ends in the first segment
 pub routine_within : (which : RoutineOf) (begin : ℕ) → slice_get routine_begins (number_of which) ≡ Some begin

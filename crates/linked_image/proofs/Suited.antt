@@ -1,6 +1,6 @@
 -- The code of a body is a piece as placing wants it.
 use Rattle.std.proofs.Common.{◌≡◌, ◌∙◌, ℕ, zero, suc, Some, slice_get, ◌+◌, ◌<◌, Bool, true, ◌&&◌, List, [], ◌∷◌}
-use Rattle.std.proofs.Common.{length, map, slice_index}
+use Rattle.std.proofs.Common.{length, slice_index}
 use Rattle.std.proofs.Common.{arith, refl, ap, sym, subst, nat_lt}
 use Rattle.std.specs.List.{list_all}
 use Rattle.std.proofs.lemmas.Bool.{and_from, lt-ltb, ltb-true}
