@@ -187,7 +187,8 @@ has_pieces pieces bounds m placeable small takes holds =
           let within = piece_within code_size code_at k begin pieces.code piece e e' in
           let text : text_end pieces ≤ base + most_bytes = is.text in
           has_code m pieces begin piece (all_at code_fixes_fit pieces.code k piece code_fit e)
-          (all_at (λ (p : CodePiece). are_found (address_of pieces) p.code.fixes) pieces.code k piece takes.code_names e)
+          (all_at (λ (p : CodePiece). are_found (address_of pieces) p.code.fixes) pieces.code k piece
+          takes.code_names e)
           (all_at begins_with_auipc pieces.code k piece takes.code_begins e)
           (all_at (λ (p : CodePiece). are_apart 2 p.code.fixes) pieces.code k piece takes.code_apart e)
           (omega (arith, within.1, text)) lows

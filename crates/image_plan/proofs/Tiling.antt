@@ -147,7 +147,8 @@ pad_placed layout at (suc size) front mid behind file here long zeros fits =
     ∙ ap (λ n. take n (drop at (front ++ (mid ++ behind)))) (sym long)
     ∙ ap (λ n. take (length mid) (drop n (front ++ (mid ++ behind)))) (sym here)
     ∙ between front mid behind in
-    let none : list_all is_zero (take (suc size) (drop at (file_of layout))) ≡ true = ap (list_all is_zero) taken ∙ zeros in
+    let none : list_all is_zero (take (suc size) (drop at (file_of layout))) ≡ true =
+    ap (list_all is_zero) taken ∙ zeros in
     subst (λ (pads : List Part). list_all (is_placed_part layout) pads ≡ true) (sym (some_pad at size))
     (and_from (is_placed_part layout (part Pad [] at (suc size))) true
     (and_from (list_all is_zero (take (suc size) (drop at (file_of layout))))
@@ -161,7 +162,8 @@ code_placed layout at [] h nodes = refl
 code_placed layout at (piece ∷ pieces) h nodes =
     let size : ℕ = code_size piece in
     let others : Bool = list_all (λ (other : CodePiece). has_nodes other.nodes) pieces in
-    let behind : at + size ≤ end_of (at + size) (map code_size pieces) = begin_below (at + size) (map code_size pieces) in
+    let behind : at + size ≤ end_of (at + size) (map code_size pieces) =
+    begin_below (at + size) (map code_size pieces) in
     let within : at + size ≤ text_size_of layout = omega (arith, behind, h) in
     and_from (is_placed_part layout (part Code piece.nodes at size))
     (list_all (is_placed_part layout) (code_parts (at + size) pieces))
@@ -203,7 +205,8 @@ tables_placed layout find (table ∷ tables) front at file here above fits nodes
     let named : Bool = list_all (λ (other : TablePiece). has_nodes other.nodes) tables in
     let typed : Bool = list_all (λ (other : TablePiece). is_table_kind other.kind) tables in
     let long : length bytes ≡ size =
-    numbers_length find table.fixes table.bytes (front_both (table_fixes_fit table) (list_all table_fixes_fit tables) fits) in
+    numbers_length find table.fixes table.bytes
+    (front_both (table_fixes_fit table) (list_all table_fixes_fit tables) fits) in
     let fill : length zeros ≡ left = length-replicate left 0 in
     let whole : size ≤ table_size table = within_word size in
     -- the zeros in the file
@@ -234,7 +237,8 @@ tables_placed layout find (table ∷ tables) front at file here above fits nodes
     (all_append (is_placed_part layout) pads others filled behind)
 
 -- the zeros in front of the second segment
-middle_size : (text : ℕ) → 0 < up_to_page text - text → is_pad_size (up_to_page text) text (up_to_page text - text) ≡ true
+middle_size : (text : ℕ) → 0 < up_to_page text - text
+    → is_pad_size (up_to_page text) text (up_to_page text - text) ≡ true
 middle_size text some =
     let second : ℕ = up_to_page text in
     let size : ℕ = second - text in
@@ -341,7 +345,8 @@ tiled_by layout pieces find same_text same_rest fits nodes =
     let code_fits : list_all (is_placed_part layout) code ≡ true =
     code_placed layout begin pieces.code code_within nodes.code in
     -- headers and runtime lie in front of the code
-    let code_behind : begin ≤ end_of begin (map code_size pieces.code) = begin_below begin (map code_size pieces.code) in
+    let code_behind : begin ≤ end_of begin (map code_size pieces.code) =
+    begin_below begin (map code_size pieces.code) in
     let header_fits : nat_le (0 + headers_size) (text_size_of layout) ≡ true =
     le-leb (0 + headers_size) (text_size_of layout) (omega (arith, code_behind, code_within)) in
     let runtime_fits : nat_le (headers_size + (code_at - front_at)) (text_size_of layout) ≡ true =

@@ -148,7 +148,8 @@ address_there find begin (x ∷ fixes) words zero fix apart fits e =
     front_both (list_all (is_apart 2 x) fixes) (are_apart 2 fixes) apart in
     let within : x.at + 1 < length words =
     ltb-true (x.at + 1) (length words)
-    (front_both (nat_lt (x.at + 1) (length words)) (list_all (λ (f : Fix). nat_lt (f.at + 1) (length words)) fixes) fits)
+    (front_both (nat_lt (x.at + 1) (length words))
+    (list_all (λ (f : Fix). nat_lt (f.at + 1) (length words)) fixes) fits)
     in
     let bits : ℕ = bits_between (begin + 4 * x.at) (target find x) in
     let here : x.at + 0 ≡ x.at = omega arith in

@@ -54,7 +54,8 @@ aligned_at count at zero begin (x ∷ items) even e = let same : at ≡ begin = 
 aligned_at count at (suc k) begin (x ∷ items) even e =
     aligned_at count (at + 4 * count x) k begin items (omega (arith, even)) e
 
-pub even_code : (k begin : ℕ) (pieces : List CodePiece) → slice_get (begins code_at (map code_size pieces)) k ≡ Some begin
+pub even_code : (k begin : ℕ) (pieces : List CodePiece)
+    → slice_get (begins code_at (map code_size pieces)) k ≡ Some begin
     → begin % 4 ≡ 0
 even_code k begin pieces e =
     aligned_at (λ (piece : CodePiece). length piece.code.words) code_at k begin pieces (omega arith) e
@@ -94,7 +95,8 @@ body_code bodies pieces bounds m item begin body is small holds e e' =
     let size : length p.piece.code.words ≡ length (code_of body) = words_length body p.piece p.selected in
     let long : length (linked program begin body) ≡ length (code_of body) = linked_length program begin body in
     let far : base ≤ code_at = omega arith in
-    let there : Bytes m begin (bytes_of (with_addresses (address_of pieces) begin p.piece.code.fixes p.piece.code.words)) =
+    let there : Bytes m begin
+    (bytes_of (with_addresses (address_of pieces) begin p.piece.code.fixes p.piece.code.words)) =
     code_there m (address_of pieces) code_at p.k begin pieces.code p.piece p.standing.piece_there
     p.standing.begin_there holds.code in
     code_at_by m pieces bounds begin (linked program begin body) holds fits (omega (arith, within.0, far))
@@ -245,7 +247,8 @@ has_program bodies pieces bounds m is small holds =
             | inl less ↦ one_small m (tables_at pieces) address byte bytes
                 (small_tables (address_of pieces) pieces.tables is.bytes) holds.tables low (omega (arith, less, size)) e
             | inr more ↦
-                let count : length {A = ℕ} (replicate (zeros bounds) 0) ≡ zeros bounds = length-replicate (zeros bounds) 0 in
+                let count : length {A = ℕ} (replicate (zeros bounds) 0) ≡ zeros bounds =
+                length-replicate (zeros bounds) 0 in
                 one_small m (tables_end pieces) address byte (replicate (zeros bounds) 0) (small_zeros (zeros bounds))
                 holds.zeros more (omega (arith, high, span, count, tables)) e
           ];

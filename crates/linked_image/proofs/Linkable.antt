@@ -461,7 +461,8 @@ of_word vars (Some slot) = (of_puts (home vars slot) 10 slot)
 of_routine : (vars : List ℕ) (number : ℕ) (arguments : List ℕ) (result : Option ℕ)
     → AllTake (does_routine vars number arguments result)
 of_routine vars number arguments result =
-    append_take (passes_to_routine vars 10 (take most_passed arguments)) (calls_routine number ++ takes_word vars result)
+    append_take (passes_to_routine vars 10 (take most_passed arguments))
+    (calls_routine number ++ takes_word vars result)
     (of_passed vars 10 (take most_passed arguments))
     (append_take (calls_routine number) (takes_word vars result) (comes_back, tt)
     (of_word vars result))
@@ -601,8 +602,11 @@ of_operation body (op.Return result) = of_returns body result
 
 of_operations : (body : LirBody) (ops : List LirOp) → AllTake (ops_lines body ops)
 of_operations body [] = tt
-of_operations body (operation ∷ ops) =
-    (tt, append_take (op_lines body operation) (ops_lines body ops) (of_operation body operation) (of_operations body ops))
+of_operations body (operation ∷ ops) = (
+  tt,
+  append_take (op_lines body operation) (ops_lines body ops) (of_operation body operation)
+      (of_operations body ops),
+)
 
 pub of_lines : (body : LirBody) → AllTake (lines_of body)
 unfolding lines_of

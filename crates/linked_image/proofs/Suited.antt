@@ -26,7 +26,8 @@ use Rattle.linked_image.proofs.Pairs.{IsPair, PairsAt, lines_apart, pairs_begin,
 -- the fixes of a body stand at the pairs of instructions that take addresses
 pub pairs_of : (body : LirBody) → PairsAt IsPair (code_of body) (fixes_of body)
 pairs_of body =
-    pairs_of_lines (far_places 0 (lines_of body)) (places_in (lines_of body)) 0 0 (lines_of body) [] refl (of_lines body)
+    pairs_of_lines (far_places 0 (lines_of body)) (places_in (lines_of body)) 0 0 (lines_of body) [] refl
+    (of_lines body)
 
 -- as many words as instructions
 pub words_length : (body : LirBody) (piece : CodePiece) → IsSelected body piece.code
@@ -35,7 +36,8 @@ words_length body piece is = ap length is.words ∙ length_mapped word_of (code_
 
 fits : (body : LirBody) (piece : CodePiece) → IsSelected body piece.code → code_fixes_fit piece ≡ true
 fits body piece is =
-    subst (λ n. list_all (λ (fix : Fix). nat_lt (fix.at + 1) n) piece.code.fixes ≡ true) (sym (words_length body piece is))
+    subst (λ n. list_all (λ (fix : Fix). nat_lt (fix.at + 1) n) piece.code.fixes ≡ true)
+    (sym (words_length body piece is))
     (subst (λ (fixes : List Fix). list_all (λ (fix : Fix). nat_lt (fix.at + 1) (length (code_of body))) fixes ≡ true)
     (sym is.fixes) (pairs_within (code_of body) (fixes_of body) (pairs_of body)))
 
