@@ -15,7 +15,7 @@ use Rattle.image_plan.specs.Written.{code_bytes, front, routine_bytes, table_byt
 use Rattle.image_plan.specs.declared.pieces.Pieces.{Pieces}
 use Rattle.image_plan.proofs.Lengths.{behind_both, code_length, routines_length, tables_length}
 
-text_is : (pieces : Pieces) (bounds : Bounds)
+pub text_is : (pieces : Pieces) (bounds : Bounds)
     → headers_size + length (text_with (address_of pieces) pieces bounds) ≡ text_size pieces
 text_is pieces bounds =
     let head : List ℕ = front pieces bounds in
@@ -30,7 +30,7 @@ text_is pieces bounds =
     omega (arith, first, second, third, all, behind)
 
 -- a list of tests, of which none finds what is too large
-first_fits : (a b : Bool) (x y : ℕ) → cond (not a) (Some x) (cond (not b) (Some y) None) ≡ None
+pub first_fits : (a b : Bool) (x y : ℕ) → cond (not a) (Some x) (cond (not b) (Some y) None) ≡ None
     → (a ≡ true) × (b ≡ true)
 first_fits true true x y h = (refl, refl)
 first_fits true false x y h = absurd (cc)

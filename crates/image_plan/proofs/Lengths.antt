@@ -100,7 +100,7 @@ routines_length at (which ∷ rest) =
 
 -- ---- tables
 
-number_length : (find : Finds) (fix : Fix) (bytes : List ℕ) → fix.at + 8 ≤ length bytes
+pub number_length : (find : Finds) (fix : Fix) (bytes : List ℕ) → fix.at + 8 ≤ length bytes
     → length (with_number find fix bytes) ≡ length bytes
 number_length find fix bytes h =
     let new : List ℕ = little_bytes 8 (target find fix) in
@@ -113,11 +113,11 @@ number_length find fix bytes h =
     length-append (take fix.at bytes) new in
     omega (arith, front, back, both, first, h)
 
-front_both : (a b : Bool) → a && b ≡ true → a ≡ true
+pub front_both : (a b : Bool) → a && b ≡ true → a ≡ true
 front_both true b h = refl
 front_both false b h = h
 
-numbers_length : (find : Finds) (fixes : List Fix) (bytes : List ℕ)
+pub numbers_length : (find : Finds) (fixes : List Fix) (bytes : List ℕ)
     → list_all (λ (fix : Fix). nat_le (fix.at + 8) (length bytes)) fixes ≡ true
     → length (with_numbers find fixes bytes) ≡ length bytes
 numbers_length find [] bytes h = refl

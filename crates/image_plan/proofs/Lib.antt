@@ -1,4 +1,12 @@
-mod Ending
-mod Fitting
-mod Lengths
-mod PartsOf
+pub mod Ending
+pub mod Fitting
+pub mod Holding
+pub mod Leading
+pub mod Lengths
+pub mod Listed
+pub mod Mapping
+pub mod Near
+pub mod PartsOf
+pub mod Tables
+pub mod Tiling
+pub mod Words

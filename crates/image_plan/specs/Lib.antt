@@ -1,5 +1,9 @@
+pub mod Conditions
 pub mod Ends
 pub mod Found
+pub mod Loaded
+pub mod Mapped
 pub mod Places
 pub mod Planned
+pub mod Tiled
 pub mod Written

@@ -8,6 +8,7 @@
 mod addresses;
 mod ends;
 mod fault;
+mod laws;
 mod map;
 mod names;
 mod parts;
@@ -19,6 +20,7 @@ mod runtime;
 mod text;
 
 pub use fault::PlaceFault;
+pub use laws::{files_of_images, images_in_memory};
 pub use names::Name;
 pub use pieces::{CodePiece, Pieces, TablePiece, is_placeable};
 pub use placing::place;

@@ -1,9 +1,15 @@
 ghost use Rattle.std.specs.Prelude.{◌≡◌, ◌<◌, length, None, true, IfErr, IfOk, OnOk};
+ghost use Rattle.std.specs.List.{list_all};
+ghost use Rattle.elf_file.specs.Elf.{machine_of};
+ghost use Rattle.image_plan.specs.Conditions.{NamesNodes, TakesAddresses, map_fits};
 ghost use Rattle.image_plan.specs.Ends.{HasEnds};
 ghost use Rattle.image_plan.specs.Found.{address_in};
+ghost use Rattle.image_plan.specs.Loaded.{HasPieces, HoldsImage};
+ghost use Rattle.image_plan.specs.Mapped.{IsMapped};
 ghost use Rattle.image_plan.specs.Places.{root_at as root_at_of, routine_begins, routines, tables_at};
 ghost use Rattle.image_plan.specs.Planned.{SegmentsFit, TellsLimit, is_placeable as is_placeable_of, layout_of};
 ghost use Rattle.image_plan.specs.Planned.{layout_with, map_of, parts_of, too_large};
+ghost use Rattle.image_plan.specs.Tiled.{IsTiled};
 ghost use Rattle.image_plan.specs.Written.{routine_bytes, text_with};
 
 use crate::addresses::{Addresses, addresses_of};
@@ -122,6 +128,14 @@ pub fn place(alloc: Global, pieces: &Pieces, bounds: Bounds) -> Result<Plan, Pla
     ensures fits { OnOk result (too_large pieces.now bounds ≡ None) }
     // So a file can be written of it.
     ensures segments { IfOk result (λ plan. SegmentsFit plan.layout) }
+    // Each byte of that file belongs to one part, and each row of the map leads into the part of its body's code.
+    ensures tiled { IfOk result (λ plan. NamesNodes pieces.now → IsTiled plan.layout plan.parts) }
+    ensures mapped { IfOk result (λ plan. NamesNodes pieces.now → list_all map_fits pieces.now.code ≡ true
+        → IsMapped plan.parts pieces.now.code plan.map) }
+    // The machine that it loads holds the pieces where they were placed, with the address that it names at each fix.
+    ensures loaded { IfOk result (λ plan. HoldsImage pieces.now bounds (machine_of plan.layout)) }
+    ensures fixed { IfOk result (λ plan. TakesAddresses pieces.now
+        → HasPieces pieces.now (machine_of plan.layout)) }
     ensures limit { IfErr result (TellsLimit pieces.now bounds) }
 {
     let runtime = all_routines(alloc)?;
