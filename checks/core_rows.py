@@ -308,11 +308,15 @@ def interface_rows(core):
             yield f"InterfaceRow {{ class: {row}, table: 0x{0x02 if of_class else 0x1B:02X}, row: {place} }}"
 
 
-def main():
+def core_of_specs():
     found = definitions(os.path.join(ROOT, "Words.antt"))
     found.update(definitions(os.path.join(ROOT, "Classes.antt")))
     values = Evaluator(found)
-    core = Core(*(values.named(name, [], {}) for name in ("classes", "instances", "local_lists", "texts")))
+    return Core(*(values.named(name, [], {}) for name in ("classes", "instances", "local_lists", "texts")))
+
+
+def main():
+    core = core_of_specs()
     bodies = []
     methods = list(method_rows(core, bodies))
     print("//! The rows of the core's tables. `checks/core_rows.py` computes them from the classes in")
@@ -347,4 +351,5 @@ def main():
     table("RUNTIME_CALLS", "(u32, RuntimeCall)", calls, "The rows of the methods that are calls of the runtime.")
 
 
-main()
+if __name__ == "__main__":
+    main()
