@@ -248,7 +248,7 @@ loaded_by bodies pieces bounds root item body given m is small has e gives holds
         frames_fit = omega (arith, distance, rest, second, tables);
         words = (omega (arith, low), has.argument);
       };
-      first = has.body;
+      first = has.first;
       body_there = e;
       argument = gives;
       heap = distance;

@@ -107,9 +107,10 @@ abbrev pub front_of : Pieces → Bounds → Front
 front_of pieces bounds = record { root = root_at pieces; heap = bounds.heap; stack = bounds.stack }
 
 -- The root begins with the address of an item's body, the word that it takes, and how far the heap begins behind the
--- root's begin.
+-- root's begin. Of the items that share the body it is the first.
 pub record HasRoot (pieces : Pieces) (item : ℕ) (root : Root) : Type 0 where
   pub body : address_of pieces ABody item ≡ Some root.body
+  pub first : item_among code_at pieces.code root.body ≡ Some item
   pub argument : root.argument < 2 ^ 64
   pub distance : root_at pieces + root.distance ≡ tables_end pieces
   pub words : (table : TablePiece) → slice_get pieces.tables pieces.root ≡ Some table

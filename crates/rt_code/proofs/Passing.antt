@@ -79,17 +79,22 @@ smaller place count count' other n h (inr high) = inr high
 
 -- memory in which a part of the scratch bytes was written
 keeps_scratch : (m m' new new' : MachineState) (bytes : List ℕ) → length bytes ≤ scratch_bytes
-    → m'.segments ≡ m.segments → new'.segments ≡ new.segments
+    → All (λ byte. byte < 256) bytes → m'.segments ≡ m.segments → new'.segments ≡ new.segments
     → Writes (register m 2 + scratch_at) bytes m' new → KeepsMemory m new'
-keeps_scratch m m' new new' bytes few e e' writes =
-    let w : Writes (register m 2 + scratch_at) bytes m new' =
-    writes_between (register m 2 + scratch_at) bytes m' m new new' (sym e) e' writes in
-    record {
-      segments = w.segments;
-      kept = λ other others apart there. w.kept other others
-          (smaller (register m 2 + scratch_at) (length bytes) scratch_bytes other (length others) few apart) there;
-      allows = w.allows;
-    }
+keeps_scratch m m' new new' bytes few small e e' writes = record {
+  bytes = bytes;
+  few = few;
+  small = small;
+  writes = writes_between (register m 2 + scratch_at) bytes m' m new new' (sym e) e' writes;
+}
+
+-- one byte, and none
+one_byte : (byte : ℕ) → byte < 256 → All (λ b. b < 256) (byte ∷ [])
+one_byte byte small zero d h = small
+one_byte byte small (suc k) d h = absurd (omega (arith, h))
+
+no_byte : All (λ b. b < 256) []
+no_byte k d h = absurd (omega (arith, h))
 
 -- a byte written to the output
 pub writes_a_byte : (address pc : ℕ) (word : ℕ → ℕ) (segments : List Segment) (streams : Streams)
@@ -190,7 +195,8 @@ writes_a_byte address pc word segments streams there has at scratch even =
         };
         pc = refl;
         kept = refl;
-        memory = keeps_scratch m m m1 new (little_bytes 1 (word 10)) (omega arith) refl refl writes;
+        memory = keeps_scratch m m m1 new (little_bytes 1 (word 10)) (omega arith)
+            (one_byte (word 10 % 256) (omega arith)) refl refl writes;
       },
     )
 
@@ -277,7 +283,7 @@ takes address pc word segments input output error there at scratch =
 returns_from : (address pc : ℕ) (word : ℕ → ℕ) (a : ℕ) (segments : List Segment) (streams streams' : Streams)
     (count k value : ℕ) (bytes : List ℕ) (next : List Segment)
     → HasRegisters (machine pc word segments) → a < 2 ^ 64 → value < 2 ^ 64 → word 1 % 2 ≡ 0
-    → length bytes ≤ scratch_bytes → count < 8
+    → length bytes ≤ scratch_bytes → All (λ byte. byte < 256) bytes → count < 8
     → Writes (word 2 + scratch_at) bytes (machine pc word segments)
     (record { pc = address + 4 * k; registers = slice_set (to_read word a) 10 value; segments = next })
     → CodeAt address (code_of ReadByte)
@@ -287,8 +293,8 @@ returns_from : (address pc : ℕ) (word : ℕ → ℕ) (a : ℕ) (segments : Lis
     ≡ Running (record { pc = address + 4 * k; registers = slice_set (to_read word a) 10 value; segments = next })
     streams'
     → (new : MachineState) × Returns 8 (machine pc word segments) streams new streams' × (register new 10 ≡ value)
-returns_from address pc word a segments streams streams' count k value bytes next has fits_a fits_value even few less
-    writes there here runs =
+returns_from address pc word a segments streams streams' count k value bytes next has fits_a fits_value even few small
+    less writes there here runs =
     let m : MachineState = machine pc word segments in
     let m7 : MachineState = record
     { pc = address + 4 * k; registers = slice_set (to_read word a) 10 value; segments = next } in
@@ -319,7 +325,7 @@ returns_from address pc word a segments streams streams' count k value bytes nex
         };
         pc = refl;
         kept = refl;
-        memory = keeps_scratch m m m7 new bytes few refl refl writes;
+        memory = keeps_scratch m m m7 new bytes few small refl refl writes;
       },
       refl,
     )
@@ -379,7 +385,8 @@ reads_a_byte address pc word segments byte rest output error there has at scratc
     let seventh : after machine_step 7 (Running m streams) ≡ Running m7 left =
     then_step 6 (Running m streams) m6 left (Running m7 left) sixth loaded in
     returns_from address pc word a segments streams left 7 7 byte (byte ∷ []) t.next has fits_a (omega (arith, small))
-    even (omega arith) (omega arith) (writes_between (word 2 + scratch_at) (byte ∷ []) m m m5 m7 refl refl writes5)
+    even (omega arith) (one_byte byte small) (omega arith)
+    (writes_between (word 2 + scratch_at) (byte ∷ []) m m m5 m7 refl refl writes5)
     (code_in_same_memory address code m6 m7 there6 refl) refl seventh
 
 -- no byte
@@ -421,5 +428,5 @@ reads_no_byte address pc word segments output error there has at scratch even =
     let seventh : after machine_step 7 (Running m streams) ≡ Running m7 streams =
     then_step 6 (Running m streams) m6 streams (Running m7 streams) sixth set in
     returns_from address pc word a segments streams streams 7 9 (2 ^ 64 - 1) [] t.next has fits_a (omega arith)
-    even (omega arith) (omega arith) (writes_between (word 2 + scratch_at) [] m m m5 m7 refl refl t.writes)
+    even (omega arith) no_byte (omega arith) (writes_between (word 2 + scratch_at) [] m m m5 m7 refl refl t.writes)
     (code_in_same_memory address code m6 m7 there6 refl) refl seventh

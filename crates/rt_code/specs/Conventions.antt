@@ -1,8 +1,7 @@
 -- What programs and the routines of the runtime keep in registers, and where a routine may write.
-use Rattle.std.specs.Prelude.{◌≡◌, ℕ, ◌+◌, ◌-◌, ◌*◌, ◌≤◌, ◌^◌, List, [], ◌∷◌, length, map, replicate}
+use Rattle.std.specs.Prelude.{◌≡◌, ℕ, ◌+◌, ◌-◌, ◌*◌, ◌<◌, ◌≤◌, ◌^◌, List, [], ◌∷◌, length, map, replicate, All}
 use Rattle.rv_step.specs.Machine.{MachineState, register}
-use Rattle.rv_step.specs.Memory.{AllowsTheSame, AreApart, Bytes, MayRead, MayWrite}
-use Rattle.rv_step.specs.Segments.{AreSegments}
+use Rattle.rv_step.specs.Memory.{AreApart, Bytes, MayRead, MayWrite, Writes}
 use Rattle.lir_core.specs.Frame.{fixed_bytes, scratch_slots}
 
 -- x1 has the address at which a call goes on behind it
@@ -65,9 +64,9 @@ pub record HasScratch (frame address count : ℕ) (m : MachineState) : Type 0 wh
 abbrev pub KeepsRegisters : MachineState → MachineState → Type 0
 KeepsRegisters m new = map (register new) kept_registers ≡ map (register m) kept_registers
 
--- the memory of `new` is that of `old` but for the bytes that a routine may write
+-- The memory of `new` is that of `old` but for some of the bytes that a routine may write, from the first of them on.
 pub record KeepsMemory (old new : MachineState) : Type 0 where
-  pub segments : AreSegments new.segments
-  pub kept : (other : ℕ) (bytes : List ℕ) → AreApart (scratch old) scratch_bytes other (length bytes)
-      → Bytes old other bytes → Bytes new other bytes
-  pub allows : (other count : ℕ) → AllowsTheSame old new other count
+  pub bytes : List ℕ
+  pub few : length bytes ≤ scratch_bytes
+  pub small : All (λ byte. byte < 256) bytes
+  pub writes : Writes (scratch old) bytes old new

@@ -173,7 +173,7 @@ dictionary_followed placing is to here begin m streams at bytes =
         small (omega arith) bytes
 
 -- the two instructions that take an address
-got_item : (placing : Placing) (begin k r address : ℕ) (code : List Ins) (m : MachineState) (bits : ℕ)
+pub got_item : (placing : Placing) (begin k r address : ℕ) (code : List Ins) (m : MachineState) (bits : ℕ)
     → bits ≡ low_bits 32 (pos address -ℤ pos (begin + 4 * k))
     → CodeAt begin code m → m.pc ≡ begin + 4 * k
     → BlockAt code k (Ins.Auipc r (upper bits) ∷ Ins.Addi r r (lower bits) ∷ [])

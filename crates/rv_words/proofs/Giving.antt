@@ -57,7 +57,7 @@ is_target vars to (Some r) e =
     record { some = omega (arith, low); few = omega (arith, high) }
 is_target vars to None e = record { some = omega arith; few = omega arith }
 
-free_7 : IsFree 7
+pub free_7 : IsFree 7
 free_7 = (λ e. omega (arith, e), λ k h e. omega (arith, e))
 
 -- what a machine that differs from another in no own register keeps the same

@@ -15,6 +15,7 @@ use Rattle.lir_core.specs.Memory.{Byte, Cell, Missing, Unwritten}
 use Rattle.lir_core.specs.Slots.{is_of_slots, is_variable, slot_at}
 use Rattle.lir_core.proofs.Sound.{first_of, second_of}
 use Rattle.lir_core.specs.Tells.{CellTellsNoMore}
+use Rattle.rt_code.specs.Conventions.{scratch_at}
 use Rattle.rv_lines.specs.Frame.{dictionary_at, home, homes_at, return_at, slot_place}
 use Rattle.rv_words.specs.Placing.{Placing}
 use Rattle.rv_words.specs.Words.{Held, Spot, beyond, bytes_from, caller_of, cell_of, frame_of, has_variable, held_from}
@@ -82,9 +83,9 @@ word_same m new address e = ap (little_number 8) (bytes_same m new address 8 e)
 
 -- ---- frames
 
--- The words that say what a frame is are in both memories the same.
+-- The words that say what a frame is, all in front of the bytes for routines, are in both memories the same.
 pub record IsSame (m new : MachineState) (held : Held) : Type 0 where
-  pub fixed : (k : ℕ) → 8 * k + 8 ≤ fixed_bytes
+  pub fixed : (k : ℕ) → 8 * k + 8 ≤ scratch_at
       → word_at new (held.address + 8 * k) ≡ word_at m (held.address + 8 * k)
 
 -- and so are those of its variables

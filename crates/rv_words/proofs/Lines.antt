@@ -76,26 +76,35 @@ first_part program begin body far_at k xs rest m at =
       registers = at.registers;
     }
 
--- behind them the machine is at the other lines
-pub at_behind : (program : WordProgram) (begin : ℕ) (body : LirBody) (far_at k count : ℕ) (xs rest : List Line)
+-- a machine that has come to where they end is at the other lines
+pub at_later : (program : WordProgram) (begin : ℕ) (body : LirBody) (far_at k : ℕ) (xs rest : List Line)
     (m new : MachineState) → AtLines program begin body far_at k (xs ++ rest) m
-    → Goes begin (linked program begin body) (k + size_of (far_of body) far_at xs) count m new → HasRegisters new
+    → CodeAt begin (linked program begin body) new
+    → new.pc ≡ begin + 4 * (k + size_of (far_of body) far_at xs) → HasRegisters new
     → AtLines program begin body (far_at + longest_of xs) (k + size_of (far_of body) far_at xs) rest new
-at_behind program begin body far_at k count xs rest m new at goes has =
+at_later program begin body far_at k xs rest m new at code_at pc has =
     let own : List Ins = code_there program begin body far_at k xs in
     let place : ℕ = k + size_of (far_of body) far_at xs in
     let behind : List Ins = code_there program begin body (far_at + longest_of xs) place rest in
     let e = whole program begin body far_at k xs rest in
     let sum : k + length own ≡ place = ap (λ n. k + n) (length_there program begin body far_at k xs) in
     record {
-      code_at = goes.code_at;
-      pc = goes.pc;
+      code_at = code_at;
+      pc = pc;
       block = subst (λ n. BlockAt (linked program begin body) n behind) sum
           (block_parts (linked program begin body) k own behind
           (subst (BlockAt (linked program begin body) k) e at.block)).1;
       legal = (legal_parts own behind (subst AllLegal e at.legal)).1;
       registers = has;
     }
+
+-- behind them the machine is at the other lines
+pub at_behind : (program : WordProgram) (begin : ℕ) (body : LirBody) (far_at k count : ℕ) (xs rest : List Line)
+    (m new : MachineState) → AtLines program begin body far_at k (xs ++ rest) m
+    → Goes begin (linked program begin body) (k + size_of (far_of body) far_at xs) count m new → HasRegisters new
+    → AtLines program begin body (far_at + longest_of xs) (k + size_of (far_of body) far_at xs) rest new
+at_behind program begin body far_at k count xs rest m new at goes has =
+    at_later program begin body far_at k xs rest m new at goes.code_at goes.pc has
 
 -- ---- lines that are an instruction each
 

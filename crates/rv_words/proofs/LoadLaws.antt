@@ -82,7 +82,7 @@ number_by near narrow rd base offset =
 abbrev pub number_code : Narrow → ℕ → ℕ → ℕ → List Ins
 number_code narrow rd base offset = number_by (is_near offset) narrow rd base offset
 
-number_singles : (narrow : Narrow) (rd base offset : ℕ)
+pub number_singles : (narrow : Narrow) (rd base offset : ℕ)
     → loads_behind narrow rd base offset ≡ singles (number_code narrow rd base offset)
 number_singles narrow rd base offset = by (is_near offset)
   where
@@ -100,7 +100,7 @@ far_number_length narrow rd base offset =
     length-append (far_code 28 base offset) (loads narrow rd 28 (pos 0) ∷ [])
     ∙ ap (λ n. n + 1) (far_length 28 base offset)
 
-number_length : (narrow : Narrow) (rd base offset : ℕ)
+pub number_length : (narrow : Narrow) (rd base offset : ℕ)
     → length (number_code narrow rd base offset) ≤ behind_address offset
 number_length narrow rd base offset = by (is_near offset)
   where
@@ -110,7 +110,7 @@ number_length narrow rd base offset = by (is_near offset)
         let few : length (constant_code 28 offset) ≤ 8 = constant_length 28 offset in
         omega (arith, few, far_number_length narrow rd base offset)
 
-number_short : (narrow : Narrow) (rd base offset : ℕ) → offset < 2 ^ 31
+pub number_short : (narrow : Narrow) (rd base offset : ℕ) → offset < 2 ^ 31
     → length (number_code narrow rd base offset) ≤ 4
 number_short narrow rd base offset h = by (is_near offset)
   where
@@ -120,7 +120,7 @@ number_short narrow rd base offset h = by (is_near offset)
         let few : length (constant_code 28 offset) ≤ 2 = constant_short 28 offset h in
         omega (arith, few, far_number_length narrow rd base offset)
 
-flat_same : (m new : MachineState) (a count n : ℕ) → new.segments ≡ m.segments → FlatNumber m a count n
+pub flat_same : (m new : MachineState) (a count n : ℕ) → new.segments ≡ m.segments → FlatNumber m a count n
     → FlatNumber new a count n
 flat_same m new a count n e f = record {
   may = ap (λ ss. is_allowed (λ s. s.read) ss a count) e ∙ f.may;
@@ -140,7 +140,7 @@ got_loaded address code k narrow rd base offset a n m at pc there legal h h' is 
     (λ ss. loaded_number narrow m ss rd base (pos offset) n at.segments g.small g.may g.there) h h'
     (low_small (widened narrow n)) has
 
-got_number : (address : ℕ) (code : List Ins) (k : ℕ) (narrow : Narrow) (rd base offset b a n : ℕ) (m : MachineState)
+pub got_number : (address : ℕ) (code : List Ins) (k : ℕ) (narrow : Narrow) (rd base offset b a n : ℕ) (m : MachineState)
     → CodeAt address code m → m.pc ≡ address + 4 * k → BlockAt code k (number_code narrow rd base offset)
     → AllLegal (number_code narrow rd base offset) → 0 < rd → rd < 32 → (base ≡ 28 → ⊥) → register m base ≡ b
     → low_bits 64 (pos b +ℤ pos offset) ≡ a → offset < 2 ^ 64 → FlatNumber m a (bytes_of_type narrow) n
@@ -200,18 +200,26 @@ place_told offset count b a e = by (nat_le ((b + offset) % addresses + count) ad
         (same, subst (λ x. x + count ≤ addresses) same (at_most ((b + offset) % addresses + count) addresses t))
     by false t e' = cc
 
--- what a sound operation says of its numbers
-pub numbers_short : (placing : Placing) → IsPlacing placing → (here : Here) (operation : LirOp) (begin : ℕ)
-    (m : MachineState) → IsAt placing here operation begin m → has_short_numbers operation ≡ true
-numbers_short placing is here operation begin m at =
+-- what a sound operation says of the parts of its frame, and of its numbers
+pub parts_fit : (placing : Placing) → IsPlacing placing → (here : Here) (operation : LirOp) (begin : ℕ)
+    (m : MachineState) → IsAt placing here operation begin m
+    → (list_all (fits here.body) (touched operation) ≡ true) × (has_short_numbers operation ≡ true)
+parts_fit placing is here operation begin m at =
     let body : LirBody = here.body in
     let all : is_sound_op body operation ≡ true =
     operation_at body here.frame.place operation (is.laid_out.sound here.frame.item body at.body) at.operation_there in
     let a : Bool = list_all (fits body) (touched operation) in
     let b : Bool = list_all (can_be_addressed body) (addressed operation) in
     let c : Bool = list_all (λ label. nat_lt label (length body.ops)) (labels operation) in
-    let d : Bool = nat_le (length (passed operation)) most_passed in
-    second_of (((a && b) && c) && d) (has_short_numbers operation) all
+    let d : Bool = nat_le (length (passed operation)) most_passed in (
+      first_of a b (first_of (a && b) c (first_of ((a && b) && c) d
+          (first_of (((a && b) && c) && d) (has_short_numbers operation) all))),
+      second_of (((a && b) && c) && d) (has_short_numbers operation) all,
+    )
+
+pub numbers_short : (placing : Placing) → IsPlacing placing → (here : Here) (operation : LirOp) (begin : ℕ)
+    (m : MachineState) → IsAt placing here operation begin m → has_short_numbers operation ≡ true
+numbers_short placing is here operation begin m at = (parts_fit placing is here operation begin m at).1
 
 pub some_bytes : (narrow : Narrow) → 0 < bytes_of_type narrow
 some_bytes Narrow.I1 = omega arith
@@ -350,7 +358,7 @@ whole_of from count s is some e =
     ]
 
 -- a word that the machine may read, as a number
-word_number : (placing : Placing) (m : MachineState) (q n : ℕ) → HasProgram placing m → placing.lowest_data ≤ q
+pub word_number : (placing : Placing) (m : MachineState) (q n : ℕ) → HasProgram placing m → placing.lowest_data ≤ q
     → q + 8 ≤ placing.lowest_data + data_bytes placing → MayRead m q 8 → word_at m q ≡ n → n < 2 ^ 64
     → FlatNumber m q 8 n
 word_number placing m q n has low high may is small =
@@ -369,7 +377,7 @@ word_number placing m q n has low high may is small =
     record { may = may; there = subst (Bytes m q) (sym back) there; small = small }
 
 -- a word of eight bytes is held as it is
-widened_word : (narrow : Narrow) (n : ℕ) → bytes_of_type narrow ≡ 8 → n < 2 ^ 64 → word_of (widened narrow n) ≡ n
+pub widened_word : (narrow : Narrow) (n : ℕ) → bytes_of_type narrow ≡ 8 → n < 2 ^ 64 → word_of (widened narrow n) ≡ n
 widened_word Narrow.I1 n e h = absurd (omega (arith, e))
 widened_word Narrow.U1 n e h = absurd (omega (arith, e))
 widened_word Narrow.I2 n e h = absurd (omega (arith, e))
@@ -477,22 +485,11 @@ load_slot placing is to slot offset n narrow here begin m streams at bytes read 
         (low_small (widened narrow n)) at.stands.serves.registers)
         (low_small (widened narrow n)) (omega arith) bytes
 
-    sound : is_sound_op body operation ≡ true
-    sound =
-        operation_at body here.frame.place operation (is.laid_out.sound here.frame.item body at.body)
-        at.operation_there
-
     fits_piece : fits body (at_place (Slot slot offset) count) ≡ true
     fits_piece =
-        let a1 : Bool = list_all (fits body) (touched operation) in
-        let b1 : Bool = list_all (can_be_addressed body) (addressed operation) in
-        let c1 : Bool = list_all (λ label. nat_lt label (length body.ops)) (labels operation) in
-        let d1 : Bool = nat_le (length (passed operation)) most_passed in
-        let all : list_all (fits body) (touched operation) ≡ true =
-        first_of a1 b1 (first_of (a1 && b1) c1 (first_of ((a1 && b1) && c1) d1
-        (first_of (((a1 && b1) && c1) && d1) (has_short_numbers operation) sound))) in
         first_of (fits body (at_place (Slot slot offset) count)) true
-        (second_of (fits body (word to)) (fits body (at_place (Slot slot offset) count) && true) all)
+        (second_of (fits body (word to)) (fits body (at_place (Slot slot offset) count) && true)
+        (parts_fit placing is here operation begin m at).0)
 
     by_variable : is_variable body (from / 8) ≡ true → number_in here.state.memory (addresses + a) count ≡ Some n
         → FollowsInBody placing begin body 8 m streams (gives_value here to streams (widened narrow n))

@@ -46,7 +46,7 @@ use Rattle.rv_words.proofs.Sites.{Site, followed_stuck, site}
 
 -- ---- what is copied
 
-copying : (lies beyond_all : Bool) (a : ℕ) (memory : FlatMemory) (cells : List Cell)
+pub copying : (lies beyond_all : Bool) (a : ℕ) (memory : FlatMemory) (cells : List Cell)
     → option_and_then (λ p. copied memory p 8) (cond lies (Some (cond beyond_all (addresses + a) a)) None) ≡ Some cells
     → (lies ≡ true) × (copied memory (cond beyond_all (addresses + a) a) 8 ≡ Some cells)
 copying true beyond_all a memory cells e = (refl, e)
@@ -102,11 +102,11 @@ abbrev pub gets_code : Option ℕ → ℕ → ℕ → List Ins
 gets_code (Some q) r slot = Ins.Addi r q (pos 0) ∷ []
 gets_code None r slot = load_code r 2 (slot_place slot)
 
-gets_singles : (o : Option ℕ) (r slot : ℕ) → gets_slot o r slot ≡ singles (gets_code o r slot)
+pub gets_singles : (o : Option ℕ) (r slot : ℕ) → gets_slot o r slot ≡ singles (gets_code o r slot)
 gets_singles (Some q) r slot = refl
 gets_singles None r slot = load_singles r 2 (slot_place slot)
 
-got_slot : (address : ℕ) (code : List Ins) (k r slot n : ℕ) (m : MachineState) (o : Option ℕ)
+pub got_slot : (address : ℕ) (code : List Ins) (k r slot n : ℕ) (m : MachineState) (o : Option ℕ)
     → CodeAt address code m → m.pc ≡ address + 4 * k → BlockAt code k (gets_code o r slot)
     → AllLegal (gets_code o r slot) → StandsIn o m slot n → n < 2 ^ 64
     → register m 2 + slot_place slot + 8 ≤ 2 ^ 64 → slot_place slot < 65536 → 0 < r → r < 32 → HasRegisters m

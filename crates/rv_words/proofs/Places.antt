@@ -146,7 +146,7 @@ far_of body = far_places 0 (lines_of body)
 abbrev pub first_size : LirBody → ℕ
 first_size body = 0 + size_of (far_of body) 0 (enters body)
 
-stops_are : (body : LirBody) → AreCode (enters body)
+pub stops_are : (body : LirBody) → AreCode (enters body)
     → stops_of body
     ≡ places_from (far_of body) (0 + longest_of (enters body)) (first_size body) (ops_lines body body.ops)
     ++ (first_size body + size_of (far_of body) (0 + longest_of (enters body)) (ops_lines body body.ops)) ∷ []
@@ -237,7 +237,7 @@ stop_at body place op code p =
     )
 
 -- The next stop is that of the next operation, or the end.
-next_of : (body : LirBody) (far : List ℕ) (far_next next end : ℕ) (behind : List LirOp) → (behind ≡ [] → end ≡ next)
+pub next_of : (body : LirBody) (far : List ℕ) (far_next next end : ℕ) (behind : List LirOp) → (behind ≡ [] → end ≡ next)
     → slice_get (places_from far far_next next (ops_lines body behind) ++ end ∷ []) 0 ≡ Some next
 next_of body far far_next next end [] last = ap Some (last refl)
 next_of body far far_next next end (op ∷ ops) last = refl

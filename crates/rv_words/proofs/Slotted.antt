@@ -71,7 +71,7 @@ bytes_small j (suc n) value (suc k) d h = bytes_small (suc j) n value k d (omega
 -- ---- the frames below
 
 -- each of them lies behind the innermost one, so nothing of it is written
-clear_above : (placing : Placing) (p count address : ℕ) (frames : List Frame) (helds : List Held)
+pub clear_above : (placing : Placing) (p count address : ℕ) (frames : List Frame) (helds : List Held)
     → AreOnes placing.program address frames helds → p + count ≤ address → AreClear p count helds
 clear_above placing p count address frames [] ones h = tt
 clear_above placing p count address frames (held ∷ helds) ones h =
@@ -94,12 +94,12 @@ outer_apart placing frame (next ∷ below) place stacked low high =
 
 -- ---- memory
 
-not_own : (c other : Cell) → is_own c ≡ false → CellTellsNoMore c other
+pub not_own : (c other : Cell) → is_own c ≡ false → CellTellsNoMore c other
 not_own Missing other e = tt
 not_own Unwritten other e = absurd (let no : true ≡ false = e in cc)
 not_own (Byte b) other e = absurd (let no : true ≡ false = e in cc)
 
-word_back : (m : MachineState) (a value : ℕ) → value < 2 ^ 64 → Bytes m a (little_bytes 8 value)
+pub word_back : (m : MachineState) (a value : ℕ) → value < 2 ^ 64 → Bytes m a (little_bytes 8 value)
     → word_at m a ≡ value
 word_back m a value small there =
     let back : little_number 8 (little_bytes 8 value) ≡ value =

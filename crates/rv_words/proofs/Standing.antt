@@ -42,7 +42,7 @@ pub record Inner (placing : Placing) (m : MachineState) (n : ℕ) (spot : Option
   pub first : FrameTellsNoMore frame (frame_of m (held_at here address homes))
   pub others : AllZip FrameTellsNoMore below (map (frame_of m) (rest_of count placing m (held_at here address homes)))
 
-inner_of : (placing : Placing) (m : MachineState) (n : ℕ) (spot : Option Spot) (address : ℕ) (homes : List ℕ)
+pub inner_of : (placing : Placing) (m : MachineState) (n : ℕ) (spot : Option Spot) (address : ℕ) (homes : List ℕ)
     (frame : Frame) (below : List Frame)
     → AllZip FrameTellsNoMore (frame ∷ below) (map (frame_of m) (held_from n placing m spot address homes))
     → Inner placing m n spot address homes frame below

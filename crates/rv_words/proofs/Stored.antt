@@ -36,7 +36,7 @@ use Rattle.rv_words.proofs.Room.{HasRoom, outer_one, own_not_fixed, own_not_vari
 use Rattle.rv_words.proofs.Standing.{InnerIn, IsOn, bounds_on, goes_on_at, held_at, held_is, held_on}
 use Rattle.rv_words.proofs.Standing.{homes_in}
 use Rattle.rv_words.proofs.Standing.{rest_of, stands_on, start_on}
-use Rattle.rv_words.proofs.Written.{AreClear, IsClear, on_written, ones_of_all, variables_same}
+use Rattle.rv_words.proofs.Written.{AreClear, IsClear, apart_front, on_written, ones_of_all, variables_same}
 
 -- ---- ranges that don't meet
 
@@ -244,7 +244,7 @@ stands_flat placing state m new frame below place p bytes cells is stands frames
     both =
         on_written placing state m new frame below place p bytes is stands frames i spot writes keeps registers above
         small
-        heap mine.fixed room clear
+        heap (apart_front p (length bytes) (register m 2) mine.fixed) room clear
 
     have : HaveSame m new (held ∷ rest)
     have = (variables_same placing m new p bytes held is stands.serves.memory room writes mine, both.1)

@@ -15,7 +15,7 @@ use Rattle.lir_core.specs.Layout.{AreStacked, FramesFit}
 use Rattle.lir_core.specs.Slots.{is_variable}
 use Rattle.lir_core.specs.State.{Frame, WordState}
 use Rattle.rt_code.specs.Code.{code_of as routine_code}
-use Rattle.rt_code.specs.Conventions.{HasClearHeap}
+use Rattle.rt_code.specs.Conventions.{HasClearHeap, scratch_at}
 use Rattle.rv_gen.specs.Placing.{code_of}
 use Rattle.rv_lines.specs.Frame.{slot_place}
 use Rattle.rv_words.specs.Linked.{linked}
@@ -39,13 +39,18 @@ abbrev pub AreClear : ℕ → ℕ → List Held → Type 0
 AreClear p count [] = Unit {0}
 AreClear p count (held ∷ others) = IsClear p count held × AreClear p count others
 
-apart_part : (p n a k : ℕ) → 8 * k + 8 ≤ 128 → AreApart p n a 128 → AreApart p n (a + 8 * k) 8
+apart_part : (p n a k : ℕ) → 8 * k + 8 ≤ 96 → AreApart p n a 96 → AreApart p n (a + 8 * k) 8
 apart_part p n a k h (inl low) = inl (omega (arith, low))
 apart_part p n a k h (inr high) = inr (omega (arith, high, h))
 
+-- and so not those in front of the bytes for routines
+pub apart_front : (p n a : ℕ) → AreApart p n a 128 → AreApart p n a 96
+apart_front p n a (inl low) = inl low
+apart_front p n a (inr high) = inr (omega (arith, high))
+
 pub fixed_same : (placing : Placing) (m new : MachineState) (p : ℕ) (bytes : List ℕ) (held : Held) → IsPlacing placing
     → HasProgram placing m → HasRoom placing held.address held.spot.body → Writes p bytes m new
-    → AreApart p (length bytes) held.address fixed_bytes → IsSame m new held
+    → AreApart p (length bytes) held.address scratch_at → IsSame m new held
 fixed_same placing m new p bytes held is has room writes apart =
     let size : 192 ≤ held.spot.body.frame = held.spot.body.frame_size.least in
     record {
@@ -74,7 +79,11 @@ all_kept placing m new p bytes frames (held ∷ helds) is has fits ones writes c
     let room : HasRoom placing held.address held.spot.body =
     room_of placing frames held.address held.spot.body is fits ones.0 in
     let rest = all_kept placing m new p bytes frames helds is has fits ones.1 writes clear.1 in (
-      (fixed_same placing m new p bytes held is has room writes clear.0.fixed, rest.0),
+      (
+        fixed_same placing m new p bytes held is has room writes
+            (apart_front p (length bytes) held.address clear.0.fixed),
+        rest.0,
+      ),
       (variables_same placing m new p bytes held is has room writes clear.0, rest.1),
     )
 
@@ -198,7 +207,7 @@ pub on_written : (placing : Placing) (state : WordState) (m new : MachineState) 
     → stands_at placing new.pc ≡ Some (record { item = i.here.item; body = i.here.body; place = place })
     → Writes p bytes m new → KeepsOwn m new → HasRegisters new → placing.lowest_data ≤ p → All (λ b. b < 256) bytes
     → (0 < register m 26 - register m 27 → AreApart p (length bytes) (register m 27) (register m 26 - register m 27))
-    → AreApart p (length bytes) (register m 2) fixed_bytes
+    → AreApart p (length bytes) (register m 2) scratch_at
     → HasRoom placing (register m 2) i.here.body
     → AreClear p (length bytes) (rest_of i.count placing m (held_at i.here (register m 2) (homes_in m)))
     → IsOn placing m new i.here (rest_of i.count placing m (held_at i.here (register m 2) (homes_in m))) place

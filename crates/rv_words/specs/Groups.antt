@@ -109,6 +109,9 @@ pub record Calling (placing : Placing) : Type 0 where
   pub call : (callee : Callee) (dictionary : Option ℕ) (arguments : List Argument) (cleared result : Block)
       → IsFollowed placing (op.Call callee dictionary arguments cleared result)
   pub return : (result : Block) → IsFollowed placing (op.Return result)
+
+-- routines of the runtime
+pub record Asking (placing : Placing) : Type 0 where
   pub routine : (number : ℕ) (arguments : List ℕ) (result : Option ℕ)
       → IsFollowed placing (op.Routine number arguments result)
 

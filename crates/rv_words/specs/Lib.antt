@@ -5,3 +5,4 @@ pub mod Steps
 pub mod Stands
 pub mod Groups
 pub mod Loaded
+pub mod Runs

@@ -1,6 +1,6 @@
 -- A machine in which a program stands that has not begun.
 use Rattle.std.specs.Prelude.{◌≡◌, ℕ, ◌<◌, ◌⊎◌, List, [], ◌∷◌, replicate, Some}
-use Rattle.num_core.specs.declared.fix.FixKind.TheVariants.{Code, Routine}
+use Rattle.num_core.specs.declared.fix.FixKind.TheVariants.{Routine}
 use Rattle.rv_step.specs.Machine.{MachineState}
 use Rattle.rv_step.specs.Memory.{Bytes, byte_in}
 use Rattle.lir_core.specs.Calls.{Given}
@@ -28,7 +28,7 @@ pub record IsLoaded (placing : Placing) (front : Front) (root : Root) (item : �
   pub memory : HasProgram placing m
   pub start : placing.program.address_of Routine (number_of Start) ≡ Some m.pc
   pub begins : Begins m.pc (code_of Start) front root body.frame m
-  pub first : placing.program.address_of Code item ≡ Some root.body
+  pub first : placing.program.item_at root.body ≡ Some item
   pub body_there : placing.program.body_of item ≡ Some body
   pub argument : GivesArgument root.argument given
   pub heap : heap_begin front root ≡ placing.program.heap_begin

@@ -22,7 +22,7 @@ use Rattle.rt_code.specs.Effects.{number_of}
 use Rattle.rt_code.specs.declared.routines.Routine.TheVariants.{Start, Unhandled}
 use Rattle.rv_gen.specs.Placing.{code_of}
 use Rattle.rv_words.specs.Placing.{Placing, Serves}
-use Rattle.rv_words.specs.Steps.{most_of_run, operation_of, stays_in_body}
+use Rattle.rv_words.specs.Steps.{in_begin, most_of_run, operation_of, stays_in_body}
 use Rattle.rv_words.specs.Words.{words}
 
 -- ---- what a state at the word level has of its own
@@ -146,13 +146,14 @@ pub record FollowsStep (placing : Placing) (state : WordState) (m : MachineState
 -- ---- whole runs
 
 -- The one simulation, of whole runs. A machine keeps step with a program: at each moment it stands where the program
--- does, or both have ended alike. The moments rise, by at most so many steps as the table says; and from one to the
--- next
--- the machine fetches its instructions from the body's code for an operation that stays in it.
+-- does, or both have ended alike. The first moment lies at most so many steps behind the begin of `start`, and the
+-- moments rise, by at most so many steps as the table says. From one to the next the machine fetches its instructions
+-- from the body's code for an operation that stays in it.
 pub record KeepsStepWith (placing : Placing) (item : ℕ) (given : List Given) (input : List ℕ) (m : MachineState)
     : Type 0 where
   pub keeps : KeepsStep (λ _. Related placing)
       (λ i. most_of_run placing.program (word_run placing.program item given input i))
       (word_run placing.program item given input) (machine_run m input)
+  pub begins : keeps.moment 0 ≤ in_begin
   pub fetches : (i j : ℕ) → keeps.moment i ≤ j → j < keeps.moment (i + 1)
       → FetchesFor placing (word_run placing.program item given input i) (machine_run m input j)

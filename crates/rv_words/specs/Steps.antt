@@ -39,6 +39,10 @@ in_routine number = if number == 1 then 2 else if number == 2 then 7 else if num
 abbrev pub in_last_line : ℕ
 in_last_line = 23
 
+-- the code of `start`, and the first instructions of the first body up to its first operation
+abbrev pub in_begin : ℕ
+in_begin = 61
+
 -- Each operation in one row. A call takes its callee's first instructions up to its first operation along, which save
 -- and load at most eight homes, and a return the caller's up to the operation behind its call.
 abbrev pub most_steps : LirOp → ℕ

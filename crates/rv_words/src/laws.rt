@@ -1,8 +1,9 @@
 //! The simulation of a program at the word level by the machine that holds its code, operation by operation. Each
 //! function does nothing, and ensures its laws of all placings.
-ghost use Rattle.rv_words.specs.Groups.{Branching, Computing, Jumping, Loading, Moving, Naming, Raising, Refusing};
-ghost use Rattle.rv_words.specs.Groups.{Searching, Storing};
+ghost use Rattle.rv_words.specs.Groups.{Asking, Branching, Calling, Computing, Copying, Jumping, Loading, Moving};
+ghost use Rattle.rv_words.specs.Groups.{Naming, Raising, Refusing, Searching, Storing};
 ghost use Rattle.rv_words.specs.Placing.{IsPlacing, Placing};
+ghost use Rattle.rv_words.specs.Runs.{IsBegun, OneStep, WholeRuns};
 
 /// Constants and addresses.
 pub fn naming()
@@ -22,6 +23,11 @@ pub fn loading()
 /// Numbers that are stored to memory.
 pub fn storing()
     ensures storing { (placing : Placing) → IsPlacing placing → Storing placing }
+{}
+
+/// Bytes that are copied and cleared.
+pub fn copying()
+    ensures copying { (placing : Placing) → IsPlacing placing → Copying placing }
 {}
 
 /// What is computed of values, and never refused.
@@ -49,7 +55,32 @@ pub fn refusing()
     ensures refusing { (placing : Placing) → IsPlacing placing → Refusing placing }
 {}
 
+/// Routines of the runtime.
+pub fn asking()
+    ensures asking { (placing : Placing) → IsPlacing placing → Asking placing }
+{}
+
+/// Calls and returns.
+pub fn calling()
+    ensures calling { (placing : Placing) → IsPlacing placing → Calling placing }
+{}
+
 /// A search that finds nothing.
 pub fn searching()
     ensures searching { (placing : Placing) → IsPlacing placing → Searching placing }
+{}
+
+/// The first machine of a loaded image.
+pub fn beginning()
+    ensures beginning { (placing : Placing) → IsPlacing placing → IsBegun placing }
+{}
+
+/// Each step of a program, by whatever operation.
+pub fn stepping()
+    ensures stepping { (placing : Placing) → IsPlacing placing → OneStep placing }
+{}
+
+/// Whole runs.
+pub fn running()
+    ensures running { (placing : Placing) → IsPlacing placing → WholeRuns placing }
 {}

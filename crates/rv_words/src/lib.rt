@@ -5,5 +5,6 @@
 mod laws;
 
 pub use laws::{
-    branching, computing, jumping, loading, moving, naming, raising, refusing, searching, storing,
+    asking, beginning, branching, calling, computing, copying, jumping, loading, moving, naming,
+    raising, refusing, running, searching, stepping, storing,
 };
