@@ -6,4 +6,16 @@ pub mod KeepingCalls
 pub mod KeepingSteps
 pub mod KeepingRuns
 pub mod Programs
+pub mod Bare
+pub mod Inner
+pub mod Computing
+pub mod Looking
+pub mod Moving
+pub mod VirtualCall
+pub mod CaughtBehind
+pub mod BoxedMethod
+pub mod BoxedValue
+pub mod FailingTypes
+pub mod FailingInitializer
+pub mod FailingSteps
 mod Worked

@@ -1,8 +1,8 @@
 -- Small programs, and how they end. Types are compared by folds that don't compute here: their equations (`types`) are
 -- put in, and all else computes. What is asked of the world again and again, a method's entry and what its tokens lead
 -- to, is computed once; so are the steps of each method's code, over which its table of stacks computes alone.
-use Rattle.std.proofs.Common.{◌≡◌, ◌∙◌, ℕ, true, List, [], ◌∷◌, Option, Some, None, Ok, ap, pos}
-use Rattle.std.proofs.Common.{refl}
+use Rattle.std.proofs.Common.{◌≡◌, ◌∙◌, ◌≤◌, ℕ, true, List, [], ◌∷◌, Option, Some, None, Result, Ok, ap, pos}
+use Rattle.std.proofs.Common.{refl, sym}
 use Rattle.std.specs.Int.{int_wrap}
 use Rattle.std.specs.Str.{chars}
 use Rattle.num_core.specs.Run.{Ended}
@@ -12,7 +12,9 @@ use Rattle.il_code.specs.declared.body.Body.{Body}
 use Rattle.il_code.specs.declared.body.Instr.{Instr}
 use Rattle.il_code.specs.declared.body.Operand.{Operand}
 use Rattle.il_code.specs.declared.body.Operand.TheVariants.{Nothing, Number as NumberOf, Token as TokenOf}
+use Rattle.il_code.specs.declared.fault.BodyFault.{BodyFault}
 use Rattle.il_code.specs.declared.opcode.Op.{Op}
+use Rattle.il_code.specs.Bodies.{body_of}
 use Rattle.il_code.specs.Instructions.{opcode_row}
 use Rattle.il_code.specs.Opcodes.{opcodes}
 use Rattle.il_code.specs.Reach.{end_of}
@@ -23,6 +25,7 @@ use Rattle.ty_terms.specs.declared.ty.Ty.TheVariants.{Named, Prim, rolls-Prim, r
 use Rattle.ty_terms.specs.Induction.{out-Prim, out-Named, fold-Prim, fold-Named}
 use Rattle.ty_names.specs.Modules.{World}
 use Rattle.ty_load.specs.declared.item.Item.TheVariants.{OfMethod}
+use Rattle.ty_load.specs.Entry.{entry_of}
 use Rattle.ty_load.specs.Tokens.{resolution}
 use Rattle.cli_layout.specs.Extents.{extent_of}
 use Rattle.cli_layout.specs.Types.{laid_of}
@@ -41,12 +44,14 @@ use Rattle.il_verify.specs.Flow.{handlers_of_body, steps_of}
 use Rattle.il_verify.specs.Inside.{is_inside}
 use Rattle.il_verify.specs.Kinds.{is_reference}
 use Rattle.il_verify.specs.Rows.{row_of}
-use Rattle.il_verify.specs.Scope.{Scope}
+use Rattle.il_verify.specs.Scope.{Callee, Scope, callee_of}
 use Rattle.il_verify.specs.Verified.{least_stacks, verification}
+use Rattle.cil_world.specs.Bare.{BeginsWith}
 use Rattle.cil_world.specs.Contents.{size_of}
-use Rattle.cil_world.specs.Entering.{StackBound, entry, text_of}
+use Rattle.cil_world.specs.Entering.{StackBound, entry, initializer_of, text_of}
 use Rattle.cil_world.specs.Programs.{constant, endless, small_bounds, told, two_calls}
 use Rattle.cil_world.specs.RuntimeSteps.{runtime_call}
+use Rattle.cil_world.specs.State.{Setting}
 use Rattle.cil_world.specs.Step.{cil_run, cil_start, cil_step}
 
 ruleset types = (size_of, out-Prim, out-Named, fold-Prim, fold-Named, rolls-Prim, rolls-Named)
@@ -83,13 +88,13 @@ method_of row =
       args = [];
     }
 
-abbrev int : Ty
+abbrev pub int : Ty
 int = Prim Primitive.I4
 
-abbrev instr : ℕ → ℕ → Op → Operand → Instr
+abbrev pub instr : ℕ → ℕ → Op → Operand → Instr
 instr at next op operand = record { at = at; next = next; op = op; operand = operand }
 
-abbrev body : List Instr → Body
+abbrev pub body : List Instr → Body
 body code = record { max_stack = 8; locals = 0; code = code; clauses = [] }
 
 -- a static method without locals that gives an int
@@ -97,17 +102,17 @@ abbrev scope : World → ℕ → List Ty → Scope
 scope world row args = record { world = world; name = method_of row; args = args; locals = []; result = int }
 
 -- what is known of the stack at an offset
-abbrev known : List StackSlot → Option Stack
+abbrev pub known : List StackSlot → Option Stack
 known slots = Some (Slots slots)
 
-abbrev before : ℕ → List StackSlot → OffsetStack
+abbrev pub before : ℕ → List StackSlot → OffsetStack
 before offset slots = record { offset = offset; stack = Slots slots }
 
 -- an instruction that goes on to the next, and one that doesn't
-abbrev onward : ℕ → ℕ → ℕ → Results → Step
+abbrev pub onward : ℕ → ℕ → ℕ → Results → Step
 onward at next takes results = record { at = at; ways = next ∷ []; effect = Takes takes results }
 
-abbrev last_step : ℕ → ℕ → Step
+abbrev pub last_step : ℕ → ℕ → Step
 last_step at takes = record { at = at; ways = []; effect = Takes takes NoResult }
 
 -- ---- a constant
@@ -150,6 +155,55 @@ constant_entry = simp (constant_inside, constant_verified, types)
 pub constant_run : cil_run constant small_bounds [] 2 ≡ Ended 42 (told [])
 unfolding constant reading stepping
 constant_run = simp (constant_entry, types)
+
+-- ---- the same constant as a bare body
+
+constant_name : entry_of constant ≡ Some (method_of 1)
+unfolding constant reading
+constant_name = simp types
+
+abbrev constant_callee : Callee
+constant_callee =
+    record {
+      name = method_of 1;
+      is_static = true;
+      receiver = Named (record { «module» = 0; row = 2 }) [];
+      params = [];
+      result = int;
+    }
+
+constant_called : callee_of constant (method_of 1) ≡ Some constant_callee
+unfolding constant reading
+constant_called = simp types
+
+constant_quiet : initializer_of constant (Named (record { «module» = 0; row = 2 }) []) ≡ None
+unfolding constant
+constant_quiet = simp types
+
+constant_reads : body_of (0x0E ∷ 0x1F ∷ 0x2A ∷ 0x2A ∷ []) ≡ Ok constant_body
+unfolding opcode_row opcodes
+constant_reads = refl
+
+one_body : (read : Result Body BodyFault) (a b : Body) → read ≡ Ok a → read ≡ Ok b → a ≡ b
+one_body read a b is also =
+    let both : Ok a ≡ Ok b = sym is ∙ also in
+    cc
+
+pub constant_begins : (setting : Setting) (body : Body) → 256 ≤ setting.bounds.stack
+    → body_of (0x0E ∷ 0x1F ∷ 0x2A ∷ 0x2A ∷ []) ≡ Ok body → BeginsWith constant setting body
+constant_begins setting body room reads =
+    record {
+      name = method_of 1;
+      callee = constant_callee;
+      found = record { body = constant_body; scope = scope constant 1 []; bytes = 256 };
+      begins = constant_name;
+      called = constant_called;
+      entered = constant_entry;
+      has_body = one_body (body_of (0x0E ∷ 0x1F ∷ 0x2A ∷ 0x2A ∷ [])) constant_body body constant_reads reads;
+      gives = refl;
+      room = room;
+      quiet = constant_quiet;
+    }
 
 -- ---- two calls
 

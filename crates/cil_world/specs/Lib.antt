@@ -15,4 +15,6 @@ pub mod CallSteps
 pub mod StubSteps
 pub mod Step
 pub mod Later
+pub mod Bare
 pub mod Programs
+pub mod ObjectPrograms
