@@ -1,7 +1,7 @@
 #!/usr/bin/env python3
-"""Compares what `monodis` reads in an image of the core module, the first word, with crates/core_lib/specs/Classes.antt:
-the classes with their attributes and bases, the interfaces, the methods with their signatures, and the fields with
-their types."""
+"""Compares what `monodis` reads in an image of the core module, the first word, with what is written down in
+crates/core_lib/specs/Classes.antt: the classes with their attributes and bases, the interfaces, the methods with their
+signatures, and the fields with their types."""
 import re
 import subprocess
 import sys

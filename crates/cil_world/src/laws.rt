@@ -73,7 +73,7 @@ pub fn small_programs()
     ensures endless { cil_run endless small_bounds [] 4 ≡ Ended 134 (told (text_of StackBound)) }
     // a call through a slot, which runs the method of the object's class
     ensures virtual_call { cil_run virtual_call small_bounds [] 6 ≡ Ended 7 (told []) }
-    // an exception is caught, and the finally inside the catch runs before
+    // an exception is caught, and the finally inside its try range runs before the handler
     ensures caught_behind { cil_run caught_behind small_bounds [] 12 ≡ Ended 3 (told []) }
     // a value is boxed, changed, and unboxed as it was
     ensures boxed_value { cil_run boxed_value small_bounds [] 11 ≡ Ended 9 (told []) }
@@ -89,8 +89,8 @@ pub fn runs_by_steps()
         run_under world setting input (suc n) ≡ one_more (cil_step world setting) (run_under world setting input n) }
 {}
 
-/// A bare body (the crate `cil_state`) is a program of one method. Where the bare run can't go on nothing is said: at an
-/// operation that bare bodies don't have, or on a stack that lacks its operands.
+/// A bare body (the crate `cil_state`) is a program of one method. Where the bare run can't go on nothing is said: at
+/// operations that bare bodies don't have, and on a stack that lacks their operands.
 pub fn bare_bodies()
     // while the bare run goes on, the program stands in the same state after as many steps
     ensures goes_on { (world : World) (setting : Setting) (body : Body) (begins : BeginsWith world setting body)
